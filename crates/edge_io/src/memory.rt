@@ -1,6 +1,6 @@
 use std::alloc::{AllocError, AllocFailed};
 
-/// Memory ran out. It is merged with no other answer.
+/// Memory ran out: an allocation was refused. It stands for nothing else, and nothing else for it.
 #[derive(Clone, Copy, Debug, PartialEq, Eq)]
 pub struct NoMemory;
 

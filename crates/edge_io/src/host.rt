@@ -1,0 +1,170 @@
+ghost use Rattle.std.specs.Prelude.{◌≡◌, ◌≢◌, ◌≤◌, ◌+◌, ◌++◌, ℕ, OnOk, OnErr, IfSome, IsOk, Option, None, Err, length};
+ghost use Rattle.edge_io.specs.Reading.{Held, read_answer, Reads, GrowsByAtMost};
+ghost use Rattle.edge_io.specs.Writing.{Puts, PutsPrefix};
+ghost use Rattle.edge_io.specs.Faults.{counted};
+
+use crate::files::{Files, ReadStop};
+use crate::memory::NoMemory;
+use crate::sink::{Sink, SinkFailed};
+use std::alloc::Global;
+use std::fs::File;
+use std::io::{ErrorKind, Print, Read};
+use std::marker::Model;
+use std::{io, rt};
+
+/// How many bytes one call asks of the system.
+const CHUNK: usize = 65536;
+
+/// The system's files, named by paths. They tell no bytes, and count the reads that failed.
+///
+/// A file that the system doesn't find is `NotHeld`, and the system's own want of memory is
+/// `NoMemory`; each other failure, as of a folder or a file that may not be read, is `Failed`.
+/// Contracts see the count alone.
+#[derive(Drop)]
+pub struct HostFiles<R> {
+    host: R,
+    faults: u64,
+}
+
+impl<R> Model for HostFiles<R> {
+    ghost use Rattle.std.specs.Prelude.{ℕ};
+
+    ghost Value = { ℕ };
+
+    ghost view = { λ f. f.faults };
+}
+
+impl<R: rt::Files + Drop> HostFiles<R> {
+    /// The files that this runtime reaches, with no fault.
+    pub fn new(host: R) -> HostFiles<R>
+        ensures { result ≡ 0 }
+    {
+        HostFiles { host, faults: 0 }
+    }
+}
+
+impl<R: rt::Files + Drop> Files for HostFiles<R> {
+    ghost held = { λ _. None };
+
+    ghost faults = { λ count. count };
+
+    fn read_named(
+        &mut self,
+        _alloc: Global,
+        name: &str,
+        limit: u64,
+        into: &mut Vec<u8>,
+    ) -> Result<(), ReadStop>
+        ensures failed { result ≡ Err ReadStop.Failed → self.new ≡ counted self.old }
+        ensures not_failed { result ≢ Err ReadStop.Failed → self.new ≡ self.old }
+        ensures never_falls { self.old ≤ self.new }
+        ensures bounded { OnOk result (GrowsByAtMost limit into.old.items into.new.items) }
+        ensures refused { OnErr result (into.new.items ≡ into.old.items) }
+    {
+        let before = into.len();
+        let read = read_file(&self.host, name, limit, into);
+        if let Err(stop) = read {
+            into.truncate(before);
+            if stop == ReadStop::Failed {
+                self.faults = self.faults.saturating_add(1);
+            }
+        }
+        read
+    }
+}
+
+/// Appends a file's bytes, where they are at most `limit`; a refusal may leave the first of them.
+fn read_file<R: rt::Files>(
+    host: &R,
+    name: &str,
+    limit: u64,
+    into: &mut Vec<u8>,
+) -> Result<(), ReadStop>
+    ensures { GrowsByAtMost limit into.old.items into.new.items }
+{
+    let mut file = match File::open(host, name) {
+        Ok(file) => file,
+        Err(error) => return Err(stop_of(&error)),
+    };
+    let mut chunk = [0u8; CHUNK];
+    let mut left = limit;
+    for _ in 0..u64::MAX {
+        let count = match file.read(&mut chunk) {
+            Ok(0) => return Ok(()),
+            Ok(count) => count,
+            Err(error) if error.kind() == ErrorKind::Interrupted => 0,
+            Err(error) => return Err(stop_of(&error)),
+        };
+        if count as u64 > left {
+            return Err(ReadStop::TooLong);
+        }
+        into.extend_from_slice(&chunk[..count])?;
+        left -= count as u64;
+    }
+    Err(ReadStop::Failed)
+}
+
+/// What an error of the system says of a read.
+fn stop_of(error: &io::Error) -> ReadStop {
+    match error.kind() {
+        ErrorKind::NotFound => ReadStop::NotHeld,
+        ErrorKind::OutOfMemory => ReadStop::NoMemory,
+        _ => ReadStop::Failed,
+    }
+}
+
+/// Standard output. It tells no bytes, has room for 18,446,744,073,709,551,615 bytes at all times,
+/// and counts the puts that failed. Contracts see the count alone.
+#[derive(Drop)]
+pub struct HostSink<R> {
+    host: R,
+    faults: u64,
+}
+
+impl<R> Model for HostSink<R> {
+    ghost use Rattle.std.specs.Prelude.{ℕ};
+
+    ghost Value = { ℕ };
+
+    ghost view = { λ s. s.faults };
+}
+
+impl<R: Print + Drop> HostSink<R> {
+    /// The standard output of this runtime, with no fault.
+    pub fn new(host: R) -> HostSink<R>
+        ensures { result ≡ 0 }
+    {
+        HostSink { host, faults: 0 }
+    }
+}
+
+impl<R: Print + Drop> Sink for HostSink<R> {
+    ghost written = { λ _. None };
+
+    ghost faults = { λ count. count };
+
+    ghost room = { λ _. 18446744073709551615 };
+
+    fn reserve(&mut self, _alloc: Global, _more: u64) -> Result<(), NoMemory>
+        ensures never_refused { IsOk result }
+        ensures room { _more ≤ 18446744073709551615 }
+        ensures kept { self.new ≡ self.old }
+    {
+        Ok(())
+    }
+
+    fn put(&mut self, piece: &[u8]) -> Result<(), SinkFailed>
+        ensures failed { OnErr result (self.new ≡ counted self.old) }
+        ensures not_failed { OnOk result (self.new ≡ self.old) }
+        ensures never_falls { self.old ≤ self.new }
+    {
+        if self.host.write_all(piece).is_err() {
+            self.faults = self.faults.saturating_add(1);
+            return Err(SinkFailed);
+        }
+        Ok(())
+    }
+}
+
+#[cfg(test)]
+mod tests;
