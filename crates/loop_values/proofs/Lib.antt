@@ -1,0 +1,10 @@
+pub mod BindingLaws
+pub mod DecimalLemmas
+pub mod EntryLemmas
+pub mod KindLemmas
+pub mod Layers
+pub mod NamesLemmas
+pub mod SameLemmas
+pub mod SoundLemmas
+pub mod SpellingLemmas
+pub mod WorkedResults

@@ -1,0 +1,44 @@
+ghost use Rattle.std.specs.Prelude.{◌≡◌, OnOk, OnErr};
+ghost use Rattle.std.specs.Option.{option_copied};
+ghost use Rattle.std.specs.Ordering.{nat_cmp};
+ghost use Rattle.std.specs.Cmp.Lexicographic.{slice_cmp};
+ghost use Rattle.std.specs.FinMap.{find};
+ghost use Rattle.loop_values.specs.Entries.{with_entry};
+
+use edge_io::NoMemory;
+use loop_data::TextValue;
+use std::alloc::Global;
+
+/// What stands under a name in a list of entries: there are a handful of names, so a list that is searched from its front is
+/// quicker than a tree.
+pub(crate) fn entry_of<'a, T>(held: &'a [(TextValue, T)], name: &str) -> Option<&'a T>
+    ensures { option_copied result ≡ find (slice_cmp nat_cmp) name.now held.now }
+{
+    for (key, item) in held {
+        if name == key.as_str() {
+            return Some(item);
+        }
+    }
+    None
+}
+
+/// Sets what stands under a name. A name that is there already takes no memory.
+pub(crate) fn set_entry<T: Drop>(
+    alloc: Global,
+    held: &mut Vec<(TextValue, T)>,
+    name: &str,
+    item: T,
+) -> Result<(), NoMemory>
+    ensures ok { OnOk result (held.new.items ≡ with_entry held.old.items name.now item) }
+    ensures err { OnErr result (held.new.items ≡ held.old.items) }
+{
+    for i in 0..held.len() {
+        if name == held[i].0.as_str() {
+            held[i].1 = item;
+            return Ok(());
+        }
+    }
+    let key = TextValue::new(alloc, name)?;
+    held.push((key, item))?;
+    Ok(())
+}

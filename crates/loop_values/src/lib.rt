@@ -1,0 +1,29 @@
+//! What expressions of the loop language mean: the values of names, the value of an expression, its kind, inner ranges, and
+//! the results of towers.
+//!
+//! The definitions stand in specs/: `value_of` (Values), `kind_of` (Kinds), `inner_items` (InnerItems), `result_of` and
+//! `result_text` (Results, ResultTexts). The functions compute them: [`eval`], [`type_of`] and [`eval_range`].
+#![tactic(auto)]
+
+mod entries;
+mod env;
+mod kinds;
+pub mod laws;
+mod operations;
+mod ranges;
+mod seen;
+mod spelling;
+mod stop;
+mod types;
+mod values;
+
+pub use env::Env;
+pub use kinds::{is_same_kind, type_of};
+pub use loop_data::{
+    Axis, Binding, Boxed, Branch, CopyIn, Expr, HeadLine, Inner, Kind, Many, Op, PrintLine,
+    RangeExpr, Statement, TextValue, TowerExpr, Value, ValueKind, Word, copy_block,
+};
+pub use ranges::{InnerRange, eval_range};
+pub use stop::{EvalStop, TypeStop};
+pub use types::Types;
+pub use values::eval;
