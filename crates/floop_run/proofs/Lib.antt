@@ -1,0 +1,4 @@
+mod LoopLemmas
+mod PutLemmas
+mod SumLemmas
+mod TopLemmas

@@ -1,0 +1,30 @@
+-- What a top call wrote, against the answer.
+-- Source: this project.
+use Rattle.std.specs.Prelude.{◌≡◌, ℕ, List, Option, map, flat_map, String, string_bytes}
+use Rattle.edge_io.specs.Writing.{Puts}
+use Rattle.floop_run.specs.declared.status.Status.{Status}
+use Rattle.floop_run.specs.declared.status.Status.TheVariants as status
+use Rattle.floop_run.specs.Answers.{Answer}
+
+-- the words as lists of bytes
+abbrev pub texts : {A : Type 0} → List (String A) → List (List ℕ)
+texts words = map string_bytes words
+
+-- The status is the answer's, and what was written is what was there before followed by the answer's text,
+-- where the sink tells its bytes.
+pub record Gives (answer : Answer) (given : Status) (before now : Option (List ℕ)) : Type 0 where
+  pub status : given ≡ answer.status
+  pub text : Puts before now answer.text
+
+-- the statuses by which a call gives an answer's text
+abbrev pub IsAnswered : Status → Type 0
+IsAnswered status.Done = Unit {0}
+IsAnswered status.LoopFault = Unit {0}
+IsAnswered status.Refused = Unit {0}
+IsAnswered status.ReadFault = ⊥
+IsAnswered status.WriteFault = ⊥
+IsAnswered status.NoMemory = ⊥
+
+-- the bytes of the lines, one after another
+abbrev pub joined : {A : Type 0} → List (String A) → List ℕ
+joined lines = flat_map string_bytes lines

@@ -1,0 +1,71 @@
+ghost use Rattle.std.specs.Prelude.{◌≡◌, ◌≢◌, ◌≤◌, Err, OnOk, OnErr, ◌+◌, length, IfSome};
+ghost use Rattle.edge_io.specs.Faults.{Rose};
+ghost use Rattle.edge_io.specs.Writing.{Puts, PutsPrefix};
+ghost use Rattle.floop_run.specs.TopCall.{joined};
+
+use edge_io::{NoMemory, Sink, SinkFailed};
+use std::alloc::Global;
+
+/// Why a text wasn't written whole.
+#[derive(Clone, Copy, Debug, PartialEq, Eq)]
+pub enum WriteStop {
+    /// The sink failed; a prefix of the text was written.
+    Failed,
+    /// Memory ran out; nothing was written.
+    NoMemory,
+}
+
+impl From<NoMemory> for WriteStop {
+    ghost use Rattle.std.specs.Prelude.{◌≡◌};
+    ghost use Rattle.floop_run.specs.declared.output.WriteStop.TheVariants.{NoMemory};
+
+    ghost from_gives = { λ _ e. e ≡ NoMemory };
+
+    fn from(_error: NoMemory) -> WriteStop {
+        WriteStop::NoMemory
+    }
+}
+
+/// Writes the lines, each by one put, after room was made for all of them. After the first put that fails nothing
+/// more is put.
+pub fn write_lines<K: Sink>(alloc: Global, out: &mut K, lines: &[String]) -> Result<(), WriteStop>
+    ensures written { OnOk result (Puts (K.written out.old) (K.written out.new) (joined lines.now)) }
+    ensures not_failed { OnOk result (K.faults out.new ≡ K.faults out.old) }
+    ensures prefix { result ≡ Err WriteStop.Failed → PutsPrefix (K.written out.old) (K.written out.new) (joined lines.now) }
+    ensures failed { result ≡ Err WriteStop.Failed → Rose (K.faults out.old) (K.faults out.new) }
+    ensures no_memory { result ≡ Err WriteStop.NoMemory → K.written out.new ≡ K.written out.old }
+{
+    let Some(length) = total_length(lines) else {
+        return Err(WriteStop::NoMemory);
+    };
+    out.reserve(alloc, length)?;
+    match put_lines(out, lines) {
+        Ok(()) => Ok(()),
+        Err(SinkFailed) => Err(WriteStop::Failed),
+    }
+}
+
+/// How many bytes the lines have together.
+fn total_length(lines: &[String]) -> Option<u64>
+    ensures { IfSome result (λ n. n ≡ length (joined lines.now)) }
+{
+    let mut total: u64 = 0;
+    for line in lines {
+        total = total.checked_add(line.len() as u64)?;
+    }
+    Some(total)
+}
+
+/// Puts the lines, for which there must be room, until a put fails.
+fn put_lines<K: Sink>(out: &mut K, lines: &[String]) -> Result<(), SinkFailed>
+    requires { length (joined lines.now) ≤ K.room out.old }
+    ensures written { OnOk result (Puts (K.written out.old) (K.written out.new) (joined lines.now)) }
+    ensures not_failed { OnOk result (K.faults out.new ≡ K.faults out.old) }
+    ensures prefix { OnErr result (PutsPrefix (K.written out.old) (K.written out.new) (joined lines.now)) }
+    ensures failed { OnErr result (Rose (K.faults out.old) (K.faults out.new)) }
+{
+    for line in lines {
+        out.put(line.as_bytes())?;
+    }
+    Ok(())
+}

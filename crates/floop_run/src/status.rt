@@ -1,0 +1,29 @@
+ghost use Rattle.std.specs.Prelude.{◌≡◌};
+
+/// How a call of the program ended. The number is the program's exit status.
+#[derive(Clone, Copy, Debug, PartialEq, Eq)]
+pub enum Status {
+    /// The loop ran to its end, and its results were written.
+    Done = 0,
+    /// The loop's leftmost stop is a fault, which was written.
+    LoopFault = 1,
+    /// The words or the loop file are refused; the reason was written.
+    Refused = 2,
+    /// A file isn't held or can't be read; nothing was written.
+    ReadFault = 3,
+    /// The sink failed; a prefix of the text was written.
+    WriteFault = 4,
+    /// Memory ran out; nothing was written.
+    NoMemory = 5,
+}
+
+impl Status {
+    ghost use Rattle.floop_run.specs.StatusCodes.{code_of};
+
+    /// The program's exit status.
+    pub fn code(self) -> u8
+        ensures { result ≡ code_of self }
+    {
+        self as u8
+    }
+}

@@ -1,0 +1,92 @@
+ghost use Rattle.std.specs.Prelude.{◌≡◌, ◌≢◌, None, IfSome, IsSome};
+ghost use Rattle.edge_io.specs.Faults.{Rose};
+ghost use Rattle.edge_io.specs.Writing.{PutsPrefix};
+ghost use Rattle.floop_run.specs.Answers.{answer_of, words_answer, not_held};
+ghost use Rattle.floop_run.specs.TopCall.{texts, Gives, IsAnswered};
+ghost use Rattle.floop_run.specs.Outputs.{answer_in};
+ghost use Rattle.floop_run.specs.Words.{loop_name};
+
+use crate::Status;
+use crate::answer::{Output, OutputStop, output_for};
+use crate::output::{WriteStop, write_lines};
+use edge_io::{Files, Sink};
+use std::alloc::Global;
+
+/// Runs the program on its words.
+///
+/// The words are `run` and `loop=NAME`, NAME being the name of a loop file of at most 65,536 bytes. The loop is run and
+/// its result written, or the reason why it is refused; each line by one put, with its LF.
+///
+/// The clauses tie the status and what was written to the answer, `answer_of` in specs/Answers:
+///
+/// - `Done` where the loop ran; `LoopFault` where its leftmost stop is a fault;
+/// - `Refused` where the words, or the loop file, are refused;
+/// - `ReadFault` where the loop file isn't held, or its read failed; nothing was written;
+/// - `WriteFault` where a put failed; a prefix of the text was written;
+/// - `NoMemory` for want of memory; nothing was written.
+pub fn floop_words<F: Files, K: Sink>(
+    alloc: Global,
+    words: &[String],
+    files: &mut F,
+    out: &mut K,
+) -> Status
+    // Where the bytes are told and no count of faults rose, the call gives the answer, unless memory ran out.
+    ensures headline { IfSome (F.held files.old) (λ held.
+        (Rose (F.faults files.old) (F.faults files.new) → ⊥) → (Rose (K.faults out.old) (K.faults out.new) → ⊥) → result ≢ Status.NoMemory →
+        Gives (answer_of (texts words.now) held) result (K.written out.old) (K.written out.new)) }
+
+    // Words that name no loop file are refused, whatever files tell.
+    ensures words_refused { loop_name (texts words.now) ≡ None →
+        (Rose (K.faults out.old) (K.faults out.new) → ⊥) → result ≢ Status.NoMemory →
+        Gives words_answer result (K.written out.old) (K.written out.new) }
+
+    // Done, LoopFault and Refused come only as the answer, also where a count rose.
+    ensures answered { IfSome (F.held files.old) (λ held.
+        IsAnswered result → Gives (answer_of (texts words.now) held) result (K.written out.old) (K.written out.new)) }
+
+    // ReadFault comes only after accepted words, and where no read failed exactly where the answer says so.
+    ensures read_fault_words { result ≡ Status.ReadFault → IsSome (loop_name (texts words.now)) }
+    ensures read_fault { IfSome (F.held files.old) (λ held.
+        (Rose (F.faults files.old) (F.faults files.new) → ⊥) → result ≡ Status.ReadFault →
+        answer_of (texts words.now) held ≡ not_held) }
+    ensures not_held { IfSome (F.held files.old) (λ held.
+        (Rose (F.faults files.old) (F.faults files.new) → ⊥) → (answer_of (texts words.now) held).status ≡ Status.ReadFault →
+        result ≢ Status.NoMemory → result ≡ Status.ReadFault) }
+    ensures read_fault_wrote { result ≡ Status.ReadFault → K.written out.new ≡ K.written out.old }
+
+    // WriteFault comes only where the sink's count rose, after a prefix of the answer's text.
+    ensures write_fault { result ≡ Status.WriteFault → Rose (K.faults out.old) (K.faults out.new) }
+    ensures write_fault_wrote { IfSome (F.held files.old) (λ held. result ≡ Status.WriteFault →
+        PutsPrefix (K.written out.old) (K.written out.new) (answer_of (texts words.now) held).text) }
+
+    // Want of memory may come at any place before the first put.
+    ensures no_memory { result ≡ Status.NoMemory → K.written out.new ≡ K.written out.old }
+
+    // The call changes no file.
+    ensures held { F.held files.new ≡ F.held files.old }
+{
+    match output_for(alloc, words, files) {
+        Ok(output) => give(alloc, out, &output),
+        Err(OutputStop::ReadFault) => Status::ReadFault,
+        Err(OutputStop::NoMemory) => Status::NoMemory,
+    }
+}
+
+/// Writes an output, whose status is then the call's, unless the sink fails or memory runs out.
+fn give<K: Sink>(alloc: Global, out: &mut K, output: &Output) -> Status
+    requires { IsAnswered output.now.status }
+    ensures given { IsAnswered result → Gives (answer_in output.now) result (K.written out.old) (K.written out.new) }
+    ensures cases { result ≢ Status.WriteFault → result ≢ Status.NoMemory → IsAnswered result }
+    ensures write_fault { result ≡ Status.WriteFault → Rose (K.faults out.old) (K.faults out.new) }
+    ensures prefix { result ≡ Status.WriteFault → PutsPrefix (K.written out.old) (K.written out.new) (answer_in output.now).text }
+    ensures no_memory { result ≡ Status.NoMemory → K.written out.new ≡ K.written out.old }
+{
+    match write_lines(alloc, out, &output.lines) {
+        Ok(()) => output.status,
+        Err(WriteStop::Failed) => Status::WriteFault,
+        Err(WriteStop::NoMemory) => Status::NoMemory,
+    }
+}
+
+#[cfg(test)]
+mod tests;
