@@ -1,0 +1,16 @@
+pub mod Products
+pub mod Boxes
+pub mod Strides
+pub mod Wraps
+pub mod Terms
+pub mod RangeFits
+pub mod Axes
+pub mod Excess
+pub mod PartHalves
+pub mod Nodes
+pub mod Reached
+pub mod Depths
+pub mod Leaves
+pub mod Nesting
+pub mod Covers
+pub mod LeafList
