@@ -1,0 +1,117 @@
+//! The example jobs, cut at every place, answer as the whole does.
+
+ghost use Rattle.std.specs.Prelude.{◌≡◌, ◌≤◌, ◌<◌, ◌+◌, ◌^◌, ℕ, IfOk};
+ghost use Rattle.fold_examples.specs.Sums.{SumUntilStands};
+
+use crate::{Sum, SumUntil};
+use edge_io::NoMemory;
+use fold_seq::{Job, Reduced, combine, fold_seq};
+use splittable::{Shape, Splittable};
+use std::alloc::Global;
+
+/// The answer of the first items, combined with that of the rest.
+fn in_two(alloc: Global, job: &SumUntil, cut: u64, rest: u64) -> Result<Reduced<u64>, NoMemory>
+    requires { 1 + cut + rest < 2 ^ 64 }
+    ensures { IfOk result (SumUntilStands job.now.at job.now.line job.now.fault 1 (cut + rest)) }
+{
+    let left = job.run(1, cut);
+    let right = job.run(1 + cut, rest);
+    combine(alloc, job, left, right)
+}
+
+#[test]
+fn a_sum_cut_at_every_place_is_the_whole(rt: HostRuntime) -> Result<(), NoMemory> {
+    let Ok(shape) = Shape::new(&[3, 4]) else {
+        assert!(rt; false);
+        return Ok(());
+    };
+    let cases = [
+        (13, None, Reduced::Going(78)),
+        (13, Some(1), Reduced::Going(78)),
+        (
+            12,
+            None,
+            Reduced::Stopped {
+                at: 12,
+                line: 3,
+                state: 78,
+            },
+        ),
+        (
+            5,
+            None,
+            Reduced::Stopped {
+                at: 5,
+                line: 3,
+                state: 15,
+            },
+        ),
+        (
+            1,
+            None,
+            Reduced::Stopped {
+                at: 1,
+                line: 3,
+                state: 1,
+            },
+        ),
+        (
+            5,
+            Some(2),
+            Reduced::Faulted {
+                at: 5,
+                line: 3,
+                kind: 2,
+            },
+        ),
+    ];
+    for (at, fault, want) in cases {
+        let job = SumUntil {
+            shape,
+            at,
+            line: 3,
+            fault,
+        };
+        for cut in 0u64..13 {
+            let have = in_two(rt.alloc(), &job, cut, 12 - cut)?;
+            assert!(rt; have == want, "{at} {cut}");
+        }
+        assert!(rt; fold_seq(rt.alloc(), &job)? == want, "{at}");
+        let stops = if at <= 12 { Some(at) } else { None };
+        assert!(rt; want.stop_place() == stops, "{at}");
+    }
+    Ok(())
+}
+
+#[test]
+fn a_sum_of_halves_is_the_whole(rt: HostRuntime) -> Result<(), NoMemory> {
+    let Ok(shape) = Shape::new(&[3, 4]) else {
+        assert!(rt; false);
+        return Ok(());
+    };
+    let job = Sum { shape };
+    assert!(rt; fold_seq(rt.alloc(), &job)? == Reduced::Going(78));
+    if let Some(whole) = job.shape().whole()
+        && let Some((left, right)) = whole.halve()
+    {
+        assert_eq!(rt; (left.len(), right.len()), (6, 6));
+    }
+    Ok(())
+}
+
+#[test]
+fn an_empty_shape_gives_the_unit(rt: HostRuntime) -> Result<(), NoMemory> {
+    let Ok(shape) = Shape::new(&[0, 4]) else {
+        assert!(rt; false);
+        return Ok(());
+    };
+    assert!(rt; fold_seq(rt.alloc(), &Sum { shape })? == Reduced::Going(0));
+    let job = SumUntil {
+        shape,
+        at: 1,
+        line: 3,
+        fault: Some(1),
+    };
+    assert!(rt; fold_seq(rt.alloc(), &job)? == Reduced::Going(0));
+    Ok(())
+}
