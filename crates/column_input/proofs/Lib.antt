@@ -1,0 +1,5 @@
+mod ChunkLemmas
+mod ColumnLemmas
+mod RecordsLemmas
+mod TableLemmas
+mod WholeLemmas

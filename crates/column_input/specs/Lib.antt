@@ -1,0 +1,6 @@
+pub mod Chunk
+pub mod Limits
+pub mod Records
+pub mod RecordsInside
+pub mod Table
+pub mod Whole
