@@ -1,0 +1,12 @@
+pub mod Fronts
+pub mod Texts
+pub mod AtWords
+pub mod FirstBytes
+pub mod Ends
+pub mod TokenOf
+pub mod Holding
+pub mod LimitLemmas
+pub mod Meanings
+pub mod OneLexing
+pub mod ReadBack
+pub mod WordsBack
