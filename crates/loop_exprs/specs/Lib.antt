@@ -1,0 +1,4 @@
+pub mod Operations
+pub mod Grammar
+pub mod Reading
+pub mod Claims
