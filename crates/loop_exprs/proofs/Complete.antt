@@ -14,11 +14,11 @@ use Rattle.loop_data.specs.declared.expr.Expr.TheVariants as e
 use Rattle.loop_data.specs.declared.value.Value.TheVariants as val
 use Rattle.loop_exprs.specs.declared.level.Level.{Level}
 use Rattle.loop_exprs.specs.declared.level.Level.TheVariants as level
-use Rattle.loop_exprs.specs.Operations.{tighter, groups_left, operation_of, word_of, extreme_of, constant_of, is_wide, positive_value, is_wide_negative, negative_value}
+use Rattle.loop_exprs.specs.Operations.{tighter, groups_left, word_of, extreme_of, constant_of, is_wide, positive_value, is_wide_negative, negative_value}
 use Rattle.loop_exprs.specs.Grammar.{Spells, SpellsParts, NotFirst, NoNumberFirst, IsOperation}
-use Rattle.loop_exprs.specs.Reading.{Read, Ends, begins_atom, Outcome, closed, applied, called, paired, beside, Reads, GoesOn, ReadsParts, ReadsAll}
+use Rattle.loop_exprs.specs.Reading.{Read, Ends, Outcome, closed, applied, called, paired, beside, Reads, GoesOn, ReadsParts, ReadsAll}
 use Rattle.loop_exprs.proofs.Sound.{IfRead, or_assoc}
-use Rattle.loop_exprs.proofs.Follow.{Stops, behind, Starts, starts, behind_rank, Stops-mono, Stops-operator, Stops-separator, one_operation, other}
+use Rattle.loop_exprs.proofs.Follow.{Stops, behind, Starts, starts, behind_rank, Stops-mono, Stops-operator, Stops-separator, one_operation}
 
 -- whatever the reader gives at ts, it is x and rest
 abbrev pub Exactly : Level → Expr → Bool → List Token → List Token → Type 0

@@ -1,5 +1,5 @@
 -- Where an expression of a level ends, and with what it begins.
-use Rattle.std.proofs.Common.{◌≡◌, ℕ, ◌≤◌, ◌<◌, Bool, List, [], ◌∷◌, Option, Some, None, refl, ap, sym, ◌∙◌, subst, arith, lit<}
+use Rattle.std.proofs.Common.{◌≡◌, ◌≤◌, ◌<◌, Bool, List, [], ◌∷◌, Option, Some, None, refl, ap, sym, ◌∙◌, arith}
 use Rattle.loop_tokens.specs.declared.token.Token.{Token}
 use Rattle.loop_tokens.specs.declared.token.Token.TheVariants as tok
 use Rattle.loop_tokens.specs.declared.keyword.Keyword.{Keyword}
@@ -7,7 +7,6 @@ use Rattle.loop_tokens.specs.declared.keyword.Keyword.TheVariants as kw
 use Rattle.loop_tokens.specs.declared.sign.Sign.TheVariants as sg
 use Rattle.loop_data.specs.declared.expr.Op.{Op}
 use Rattle.loop_data.specs.declared.expr.Op.TheVariants as op
-use Rattle.loop_data.specs.declared.expr.Word.{Word}
 use Rattle.loop_data.specs.declared.expr.Expr.{Expr}
 use Rattle.loop_exprs.specs.declared.level.Level.{Level}
 use Rattle.loop_exprs.specs.declared.level.Level.TheVariants as level

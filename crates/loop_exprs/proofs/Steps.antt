@@ -1,5 +1,5 @@
 -- What is passed on.
-use Rattle.std.proofs.Common.{◌≡◌, ℕ, ◌^◌, ◌+◌, ◌≤◌, Bool, true, false, cond, nat_lt, nat_le, ◌∷◌, IfOk, refl, ap, ◌∙◌, pos, neg_ℤ, arith, List, Option, None, Result, Ok, Err, Vec, Global, subst, sym}
+use Rattle.std.proofs.Common.{◌≡◌, ℕ, ◌^◌, ◌+◌, ◌≤◌, Bool, true, false, cond, nat_lt, nat_le, ◌∷◌, refl, ap, ◌∙◌, pos, neg_ℤ, arith, List, None, Result, Ok, Err, Vec, Global, subst, sym}
 use mir.Val.{to_z, of_z}
 use mir.Syntax.{w64}
 use lib.IntN.{ℤ}

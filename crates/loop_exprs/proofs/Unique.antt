@@ -1,9 +1,8 @@
 -- The reader gives what is spelled; so tokens spell one expression at most.
-use Rattle.std.proofs.Common.{◌≡◌, Bool, true, false, ◌||◌, List, [], ◌∷◌, ◌++◌, length, Some, None, Option, refl, ap, sym, ◌∙◌, subst, arith, append_assoc, Result, Ok, Err, IfOk}
+use Rattle.std.proofs.Common.{◌≡◌, Bool, true, false, ◌||◌, List, [], ◌∷◌, ◌++◌, Some, refl, ap, sym, ◌∙◌, subst, arith, append_assoc, Result, Ok, Err, IfOk}
 use Rattle.std.specs.Borrow.{Bor}
 use Rattle.loop_tokens.specs.declared.token.Token.{Token}
 use Rattle.loop_tokens.specs.declared.token.Token.TheVariants as tok
-use Rattle.loop_tokens.specs.declared.keyword.Keyword.{Keyword}
 use Rattle.loop_tokens.specs.declared.keyword.Keyword.TheVariants as kw
 use Rattle.loop_tokens.specs.declared.sign.Sign.TheVariants as sg
 use Rattle.loop_data.specs.declared.expr.Op.{Op}
@@ -13,9 +12,9 @@ use Rattle.loop_exprs.specs.declared.level.Level.{Level}
 use Rattle.loop_exprs.specs.declared.level.Level.TheVariants as level
 use Rattle.loop_exprs.specs.declared.read.ReadError.{ReadError}
 use Rattle.loop_exprs.specs.declared.read.ReadError.TheVariants.{NoMemory, NotSpelled}
-use Rattle.loop_exprs.specs.Operations.{tighter, groups_left, operation_of}
+use Rattle.loop_exprs.specs.Operations.{tighter, groups_left}
 use Rattle.loop_exprs.specs.Grammar.{Spells, SpellsParts, NotFirst, IsOperation}
-use Rattle.loop_exprs.specs.Reading.{Read, Outcome, Gives, called, paired, beside, closed, Reads, GoesOn, ReadsParts, ReadsAll}
+use Rattle.loop_exprs.specs.Reading.{Outcome, Gives, called, paired, beside, Reads, GoesOn, ReadsParts, ReadsAll}
 use Rattle.loop_exprs.specs.Claims.{MayEnd, Front, GaveFront, GaveEachFront, OneReading}
 use Rattle.loop_exprs.proofs.Steps.{seen}
 use Rattle.loop_exprs.proofs.Sound.{sound, or_assoc}

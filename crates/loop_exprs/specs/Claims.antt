@@ -1,6 +1,6 @@
 -- What is claimed of the reader of expressions.
 -- Source: this project.
-use Rattle.std.specs.Prelude.{◌≡◌, Bool, List, [], ◌∷◌, Option, None, Result, Ok, Err}
+use Rattle.std.specs.Prelude.{◌≡◌, Bool, List, [], ◌∷◌, None, Result, Ok, Err}
 use Rattle.loop_tokens.specs.declared.token.Token.{Token}
 use Rattle.loop_data.specs.declared.expr.Expr.{Expr}
 use Rattle.loop_exprs.specs.declared.level.Level.TheVariants as level

@@ -1,6 +1,6 @@
 -- Which tokens spell which expression.
 -- Source: this project's language.
-use Rattle.std.specs.Prelude.{◌≡◌, ℕ, ◌≤◌, Bool, true, false, ◌||◌, List, [], ◌∷◌, length, Option, Some, None}
+use Rattle.std.specs.Prelude.{◌≡◌, ℕ, ◌≤◌, Bool, true, false, ◌||◌, List, [], ◌∷◌, length, Some, None}
 use Rattle.loop_tokens.specs.declared.token.Token.{Token}
 use Rattle.loop_tokens.specs.declared.token.Token.TheVariants as tok
 use Rattle.loop_tokens.specs.declared.keyword.Keyword.{Keyword}

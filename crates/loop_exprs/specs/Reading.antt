@@ -1,11 +1,10 @@
 -- What the reader of expressions does, step by step. Apart from the grammar, and tied to it in proofs/.
 -- Source: this project.
-use Rattle.std.specs.Prelude.{◌≡◌, Bool, true, false, ◌||◌, ℕ, ◌≤◌, nat_le, List, [], ◌∷◌, ◌++◌, length, Option, Some, None, Result, Ok, Err, if◌then◌else◌}
+use Rattle.std.specs.Prelude.{◌≡◌, Bool, true, false, ◌||◌, ℕ, nat_le, List, [], ◌∷◌, ◌++◌, length, Option, Some, None, Result, Ok, Err, if◌then◌else◌}
 use Rattle.loop_tokens.specs.declared.token.Token.{Token}
 use Rattle.loop_tokens.specs.declared.token.Token.TheVariants as tok
 use Rattle.loop_tokens.specs.declared.keyword.Keyword.{Keyword}
 use Rattle.loop_tokens.specs.declared.keyword.Keyword.TheVariants as kw
-use Rattle.loop_tokens.specs.declared.sign.Sign.{Sign}
 use Rattle.loop_tokens.specs.declared.sign.Sign.TheVariants as sg
 use Rattle.loop_tokens.specs.Literals.{number_of, text_of}
 use Rattle.loop_data.specs.declared.expr.Op.{Op}
@@ -17,7 +16,7 @@ use Rattle.loop_exprs.specs.declared.level.Level.{Level}
 use Rattle.loop_exprs.specs.declared.level.Level.TheVariants as level
 use Rattle.loop_exprs.specs.declared.read.ReadError.{ReadError}
 use Rattle.loop_exprs.specs.declared.read.ReadError.TheVariants.{NoMemory, NotSpelled}
-use Rattle.loop_exprs.specs.Operations.{tighter, groups_left, operation_of, level_of, word_of, extreme_of, constant_of, is_wide, positive_value, is_wide_negative, negative_value}
+use Rattle.loop_exprs.specs.Operations.{tighter, groups_left, word_of, extreme_of, constant_of, is_wide, positive_value, is_wide_negative, negative_value}
 use Rattle.loop_exprs.specs.Grammar.{NotFirst, NoNumberFirst, IsOperation}
 
 -- something read, whether some number was too wide, and the tokens behind it, or nothing

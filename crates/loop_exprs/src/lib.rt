@@ -4,7 +4,10 @@
 //! reported beside the expression, so that a line can first be told from what is no line.
 #![tactic(auto)]
 
+mod front;
+mod leaves;
 mod level;
+mod operations;
 mod read;
 
 pub use level::Level;

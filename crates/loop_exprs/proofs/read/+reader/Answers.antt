@@ -1,10 +1,9 @@
-use Rattle.std.proofs.Common.{◌≡◌, ◌∷◌, ◌∙◌, ap, sym, Some, rules, refl, false}
+use Rattle.std.proofs.Common.{◌≡◌, ◌∷◌, sym, rules, refl, false}
 use Rattle.loop_tokens.specs.declared.token.Token.TheVariants as tok
 use Rattle.loop_tokens.specs.declared.keyword.Keyword.TheVariants as kw
-use Rattle.loop_tokens.specs.declared.sign.Sign.TheVariants as sg
 use Rattle.loop_tokens.specs.Literals.{number_of}
 use Rattle.loop_exprs.specs.declared.level.Level.TheVariants as level
-use Rattle.loop_exprs.specs.Reading.{closed, applied, beside, Reads as r, GoesOn as g, ReadsParts as p, ReadsAll as a}
+use Rattle.loop_exprs.specs.Reading.{beside, Reads as r, GoesOn as g, ReadsParts as p, ReadsAll as a}
 use Rattle.loop_exprs.proofs.Steps.{passes, hands_on, seen, seen_parts, fits_negative, fits_positive, no_group}
 use Rattle.loop_exprs.proofs.read.+reader.Goals as goal
 
