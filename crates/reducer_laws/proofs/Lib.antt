@@ -1,0 +1,5 @@
+pub mod EndLemmas
+pub mod ExtremeLemmas
+pub mod GroupLemmas
+pub mod KeyLemmas
+pub mod NumberLemmas
