@@ -1,0 +1,46 @@
+//! The values of names.
+
+use crate::tests::{gives_text, number_of};
+use crate::{int, name, two};
+use edge_io::NoMemory;
+use loop_values::{Env, Expr, Op, TextValue, Value};
+use std::alloc::Global;
+use std::test::Fail;
+
+/// `n` bound to 2 and then to 3, the text `t`, and the place 8.
+fn bound(alloc: Global) -> Result<Env, NoMemory> {
+    let mut env = Env::new(alloc);
+    env.bind(alloc, "n", Value::Int(2))?;
+    env.bind(alloc, "t", Value::Text(TextValue::new(alloc, "two")?))?;
+    env.bind(alloc, "n", Value::Int(3))?;
+    env.bind(alloc, "place", Value::Int(8))?;
+    Ok(env)
+}
+
+#[test]
+fn names_and_the_place(rt: HostRuntime) -> Result<(), Fail> {
+    let alloc = rt.alloc();
+    let env = bound(alloc)?;
+    assert_eq!(rt; env.get("n"), Some(&Value::Int(3)));
+    assert!(rt; env.get("m").is_none());
+    assert!(rt; env.get("").is_none());
+    let sum = two(alloc, Op::Add, name(alloc, "n"), Ok(Expr::Place));
+    assert_eq!(rt; number_of(alloc, sum, &env), Ok(Some(11)));
+    assert_eq!(rt; gives_text(alloc, name(alloc, "t"), &env, "two"), Ok(true));
+    assert_eq!(rt; number_of(alloc, name(alloc, "t"), &env), Ok(None));
+    Ok(())
+}
+
+#[test]
+fn a_copy_has_the_same_bindings(rt: HostRuntime) -> Result<(), Fail> {
+    let alloc = rt.alloc();
+    let mut env = bound(alloc)?;
+    let copy = env.copy(alloc)?;
+    env.bind(alloc, "n", Value::Int(4))?;
+    assert_eq!(rt; copy.get("n"), Some(&Value::Int(3)));
+    assert_eq!(rt; env.get("n"), Some(&Value::Int(4)));
+    assert_eq!(rt; copy.get("place"), Some(&Value::Int(8)));
+    assert_eq!(rt; gives_text(alloc, name(alloc, "t"), &copy, "two"), Ok(true));
+    assert!(rt; copy.get("m").is_none());
+    Ok(())
+}

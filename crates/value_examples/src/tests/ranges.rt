@@ -1,0 +1,149 @@
+//! Inner ranges: how many items, and which refusal.
+
+use crate::{call, int, name, text, two};
+use edge_io::NoMemory;
+use loop_values::{Env, EvalStop, Expr, InnerRange, Op, RangeExpr, Value, Word, eval_range};
+use std::alloc::Global;
+use std::test::Fail;
+
+const LEAST: i64 = -9223372036854775808;
+
+const MOST: i64 = 9223372036854775807;
+
+fn number(n: i64) -> Expr {
+    Expr::Lit(Value::Int(n))
+}
+
+fn of_numbers(first: i64, step: Option<i64>, last: i64) -> RangeExpr {
+    let step = match step {
+        Some(n) => Some(number(n)),
+        None => None,
+    };
+    RangeExpr {
+        first: number(first),
+        step,
+        last: number(last),
+    }
+}
+
+/// First, step and last, how many body runs the item has already, and the number of items or the refusal.
+static COUNTS: [(i64, Option<i64>, i64, u64, Result<u64, EvalStop>); 43] = [
+    (1, None, 10, 1, Ok(10)),
+    (1, None, 1, 1, Ok(1)),
+    (5, None, 1, 1, Ok(0)),
+    (-3, None, 3, 1, Ok(7)),
+    (1, Some(2), 9, 1, Ok(5)),
+    (1, Some(2), 10, 1, Ok(5)),
+    (1, Some(2), 2, 1, Ok(1)),
+    (10, Some(-3), 1, 1, Ok(4)),
+    (10, Some(-3), 2, 1, Ok(3)),
+    (10, Some(-3), 10, 1, Ok(1)),
+    (1, Some(-1), 5, 1, Ok(0)),
+    (5, Some(1), 4, 1, Ok(0)),
+    // At the ends of 64 bits.
+    (MOST, None, MOST, 1, Ok(1)),
+    (LEAST, None, LEAST, 1, Ok(1)),
+    (MOST, None, LEAST, 1, Ok(0)),
+    (LEAST, Some(-1), MOST, 1, Ok(0)),
+    (LEAST, Some(-1), LEAST, 1, Ok(1)),
+    (MOST, Some(MOST), MOST, 1, Ok(1)),
+    (LEAST, Some(MOST), MOST, 1, Ok(3)),
+    (MOST, Some(LEAST), LEAST, 1, Ok(2)),
+    (MOST, Some(-MOST), LEAST, 1, Ok(3)),
+    (LEAST, Some(LEAST), MOST, 1, Ok(0)),
+    (0, Some(MOST), MOST, 1, Ok(2)),
+    (1, Some(MOST), MOST, 1, Ok(1)),
+    (0, Some(LEAST), LEAST, 1, Ok(2)),
+    (-1, Some(LEAST), LEAST, 1, Ok(1)),
+    (LEAST, Some(18446744073710), MOST, 1, Ok(1000000)),
+    (
+        LEAST,
+        Some(18446744073709),
+        MOST,
+        1,
+        Err(EvalStop::TooManyInner),
+    ),
+    // At most 1,000,000 body runs.
+    (1, None, 1000000, 1, Ok(1000000)),
+    (1, None, 1000001, 1, Err(EvalStop::TooManyInner)),
+    (-1, Some(-1), -1000000, 1, Ok(1000000)),
+    (-1, Some(-1), -1000001, 1, Err(EvalStop::TooManyInner)),
+    (1, None, 1000, 1000, Ok(1000)),
+    (1, None, 1001, 1000, Err(EvalStop::TooManyInner)),
+    (1, None, 1, 1000000, Ok(1)),
+    (1, None, 2, 1000000, Err(EvalStop::TooManyInner)),
+    (2, None, 1, 1000000, Ok(0)),
+    (LEAST, None, MOST, 1, Err(EvalStop::TooManyInner)),
+    (MOST, Some(-1), LEAST, 1000000, Err(EvalStop::TooManyInner)),
+    // A step of 0.
+    (1, Some(0), 5, 1, Err(EvalStop::StepZero)),
+    (5, Some(0), 1, 1, Err(EvalStop::StepZero)),
+    (1, Some(0), 1, 1000000, Err(EvalStop::StepZero)),
+    (LEAST, Some(0), MOST, 1, Err(EvalStop::StepZero)),
+];
+
+#[test]
+fn counts_of_ranges(rt: HostRuntime) {
+    let alloc = rt.alloc();
+    let env = Env::new(alloc);
+    for case in &COUNTS {
+        let (first, step, last, width, want) = *case;
+        assert!(rt; 1 <= width && width <= 1000000);
+        let got = eval_range(alloc, &of_numbers(first, step, last), &env, width);
+        let by = step.unwrap_or(1);
+        let want = match want {
+            Ok(count) => Ok(InnerRange {
+                first,
+                step: by,
+                count,
+            }),
+            Err(stop) => Err(stop),
+        };
+        assert_eq!(rt; got, want, "{first}:{step:?}:{last} after {width}");
+    }
+}
+
+/// A range of three bounds, each of which may have been refused.
+fn of_bounds(
+    first: Result<Expr, NoMemory>,
+    step: Result<Expr, NoMemory>,
+    last: Result<Expr, NoMemory>,
+) -> Result<RangeExpr, NoMemory> {
+    Ok(RangeExpr {
+        first: first?,
+        step: Some(step?),
+        last: last?,
+    })
+}
+
+/// How many items a range has, or its refusal.
+fn count(alloc: Global, range: Result<RangeExpr, NoMemory>, env: &Env) -> Result<u64, EvalStop> {
+    Ok(eval_range(alloc, &range?, env, 1)?.count)
+}
+
+/// `1 div 0`, whose fault is `DivideError`.
+fn divided(alloc: Global) -> Result<Expr, NoMemory> {
+    two(alloc, Op::Div, int(1), int(0))
+}
+
+/// `int("x")`, whose fault is `NotANumber`.
+fn misspelt(alloc: Global) -> Result<Expr, NoMemory> {
+    call(alloc, Word::Int, text(alloc, "x"))
+}
+
+#[test]
+fn bounds_from_left_to_right(rt: HostRuntime) -> Result<(), Fail> {
+    let alloc = rt.alloc();
+    let mut env = Env::new(alloc);
+    env.bind(alloc, "x", Value::Int(9))?;
+    let range = of_bounds(int(1), int(2), name(alloc, "x"));
+    assert_eq!(rt; count(alloc, range, &env), Ok(5));
+    let range = of_bounds(divided(alloc), misspelt(alloc), int(1));
+    assert_eq!(rt; count(alloc, range, &env), Err(EvalStop::DivideError));
+    let range = of_bounds(int(1), misspelt(alloc), divided(alloc));
+    assert_eq!(rt; count(alloc, range, &env), Err(EvalStop::NotANumber));
+    // The last bound's fault comes before the step of 0.
+    let range = of_bounds(int(1), int(0), divided(alloc));
+    assert_eq!(rt; count(alloc, range, &env), Err(EvalStop::DivideError));
+    Ok(())
+}
