@@ -1,0 +1,4 @@
+pub mod Steps
+pub mod Towers
+pub mod OneLine
+pub mod Verdicts

@@ -1,0 +1,176 @@
+//! Reads a tower.
+
+ghost use Rattle.std.specs.Prelude.{◌≡◌, ◌<◌, ◌∷◌, ◌||◌, Some, None, IfOk, length};
+ghost use Rattle.loop_tokens.specs.declared.token.Token.TheVariants as t;
+ghost use Rattle.loop_tokens.specs.declared.sign.Sign.TheVariants as sg;
+ghost use Rattle.loop_exprs.specs.Reading.{Gives};
+ghost use Rattle.loop_grammar.specs.LineForms.{SpellsTower, leaf_kind};
+ghost use Rattle.loop_heads.specs.Claims.{GaveEach};
+ghost use Rattle.loop_lines.specs.Claims.{Tells, TowerAt, TowerUpTo, OneTower};
+
+use crate::front::call;
+use crate::parts::expr_up_to;
+use loop_data::{Boxed, Expr, Kind, TowerExpr};
+use loop_exprs::ReadError;
+use loop_heads::eat;
+use loop_tokens::{Keyword, Sign, Token};
+use std::alloc::Global;
+
+/// The kind of tower of one expression that a word is.
+fn leaf_kind(word: Keyword) -> Option<Kind>
+    ensures { result ≡ leaf_kind word }
+{
+    match word {
+        Keyword::Sum => Some(Kind::Sum),
+        Keyword::Prod => Some(Kind::Prod),
+        Keyword::Min => Some(Kind::Least),
+        Keyword::Max => Some(Kind::Greatest),
+        Keyword::ArgMin => Some(Kind::LeastAt),
+        Keyword::ArgMax => Some(Kind::GreatestAt),
+        Keyword::First => Some(Kind::First),
+        Keyword::Last => Some(Kind::Last),
+        Keyword::Any => Some(Kind::Any),
+        Keyword::All => Some(Kind::All),
+        Keyword::List => Some(Kind::Listed),
+        _ => None,
+    }
+}
+
+/// Reads what stands between the parentheses of a tower of one expression.
+fn leaf<'t, 'a>(
+    alloc: Global,
+    word: Keyword,
+    kind: Kind,
+    tokens: &'t [Token<'a>],
+) -> Result<(TowerExpr, bool, &'t [Token<'a>]), ReadError>
+    requires { leaf_kind word ≡ Some kind }
+    ensures reads { Gives (Tells (TowerAt (t.Keyword word ∷ t.Sign sg.Open ∷ tokens.now))) (λ p. (p.0, p.1, p.2.now)) result }
+    ensures shorter { IfOk result (λ p. length p.2.now < length tokens.now) }
+{
+    let (expr, wide, rest) = expr_up_to(alloc, Sign::Close, tokens)?;
+    Ok((TowerExpr::Leaf { kind, expr }, wide, rest))
+}
+
+/// Reads what follows `count(`.
+fn count<'t, 'a>(tokens: &'t [Token<'a>]) -> Result<(TowerExpr, bool, &'t [Token<'a>]), ReadError>
+    ensures reads { Gives (Tells (TowerAt (t.Keyword Keyword.Count ∷ t.Sign sg.Open ∷ tokens.now))) (λ p. (p.0, p.1, p.2.now)) result }
+    ensures shorter { IfOk result (λ p. length p.2.now < length tokens.now) }
+{
+    match eat(Sign::Close, tokens) {
+        Some(rest) => Ok((TowerExpr::Count, false, rest)),
+        None => Err(ReadError::NotSpelled),
+    }
+}
+
+fn group_of(alloc: Global, key: Expr, inner: TowerExpr) -> Result<TowerExpr, edge_io::NoMemory>
+    ensures { IfOk result (λ x. x ≡ TowerExpr.Grouped key inner) }
+{
+    let inner = Boxed::new(alloc, inner)?;
+    Ok(TowerExpr::Grouped { key, inner })
+}
+
+fn both_of(alloc: Global, left: TowerExpr, right: TowerExpr) -> Result<TowerExpr, edge_io::NoMemory>
+    ensures { IfOk result (λ x. x ≡ TowerExpr.Both left right) }
+{
+    let left = Boxed::new(alloc, left)?;
+    let right = Boxed::new(alloc, right)?;
+    Ok(TowerExpr::Both(left, right))
+}
+
+/// Whether some number is too wide on one side or the other.
+pub(crate) fn either(wide: bool, also: bool) -> bool
+    ensures { result ≡ (wide || also) }
+{
+    wide || also
+}
+
+/// Reads the tower at the front of the tokens.
+#[cycle(towers)]
+pub(crate) fn tower<'t, 'a>(
+    alloc: Global,
+    tokens: &'t [Token<'a>],
+) -> Result<(TowerExpr, bool, &'t [Token<'a>]), ReadError>
+    ensures reads { Gives (Tells (TowerAt tokens.now)) (λ p. (p.0, p.1, p.2.now)) result }
+    ensures shorter { IfOk result (λ p. length p.2.now < length tokens.now) }
+{
+    let Some((word, rest)) = call(tokens) else {
+        return Err(ReadError::NotSpelled);
+    };
+    match leaf_kind(word) {
+        Some(kind) => leaf(alloc, word, kind, rest),
+        None => match word {
+            Keyword::Count => count(rest),
+            Keyword::Group => group(alloc, rest),
+            Keyword::Both => both(alloc, rest),
+            _ => Err(ReadError::NotSpelled),
+        },
+    }
+}
+
+/// Reads the tower in front of the sign.
+#[cycle(towers)]
+fn tower_up_to<'t, 'a>(
+    alloc: Global,
+    sign: Sign,
+    tokens: &'t [Token<'a>],
+) -> Result<(TowerExpr, bool, &'t [Token<'a>]), ReadError>
+    ensures reads { Gives (Tells (TowerUpTo sign tokens.now)) (λ p. (p.0, p.1, p.2.now)) result }
+    ensures shorter { IfOk result (λ p. length p.2.now < length tokens.now) }
+{
+    let (found, wide, rest) = tower(alloc, tokens)?;
+    match eat(sign, rest) {
+        Some(rest) => Ok((found, wide, rest)),
+        None => Err(ReadError::NotSpelled),
+    }
+}
+
+/// Reads what follows `group(`.
+#[cycle(towers)]
+fn group<'t, 'a>(
+    alloc: Global,
+    tokens: &'t [Token<'a>],
+) -> Result<(TowerExpr, bool, &'t [Token<'a>]), ReadError>
+    ensures reads { Gives (Tells (TowerAt (t.Keyword Keyword.Group ∷ t.Sign sg.Open ∷ tokens.now))) (λ p. (p.0, p.1, p.2.now)) result }
+    ensures shorter { IfOk result (λ p. length p.2.now < length tokens.now) }
+{
+    let (key, wide, rest) = expr_up_to(alloc, Sign::Comma, tokens)?;
+    let (inner, also, rest) = tower_up_to(alloc, Sign::Close, rest)?;
+    let any_wide = either(wide, also);
+    let whole = group_of(alloc, key, inner)?;
+    Ok((whole, any_wide, rest))
+}
+
+/// Reads what follows `both(`.
+#[cycle(towers)]
+fn both<'t, 'a>(
+    alloc: Global,
+    tokens: &'t [Token<'a>],
+) -> Result<(TowerExpr, bool, &'t [Token<'a>]), ReadError>
+    ensures reads { Gives (Tells (TowerAt (t.Keyword Keyword.Both ∷ t.Sign sg.Open ∷ tokens.now))) (λ p. (p.0, p.1, p.2.now)) result }
+    ensures shorter { IfOk result (λ p. length p.2.now < length tokens.now) }
+{
+    let (left, wide, rest) = tower_up_to(alloc, Sign::Comma, tokens)?;
+    let (right, also, rest) = tower_up_to(alloc, Sign::Close, rest)?;
+    let any_wide = either(wide, also);
+    let whole = both_of(alloc, left, right)?;
+    Ok((whole, any_wide, rest))
+}
+
+/// Reads the tower at the front of the tokens: the tower, whether some number in it is too wide (it then has 0 in its place),
+/// and the tokens that follow. `NotSpelled` exactly where no tower is spelled there; otherwise the only error is want of
+/// memory. The recursion is bounded by the line's limits.
+pub fn read_tower<'t, 'a>(
+    alloc: Global,
+    tokens: &'t [Token<'a>],
+) -> Result<(TowerExpr, bool, &'t [Token<'a>]), ReadError>
+    ensures spelled { IfOk result (λ p. SpellsTower p.0 p.1 tokens.now p.2.now) }
+    ensures only { GaveEach (TowerAt tokens.now) (λ p. (p.0, p.1, p.2.now)) result }
+    ensures shorter { IfOk result (λ p. length p.2.now < length tokens.now) }
+{
+    tower(alloc, tokens)
+}
+
+/// Tokens spell one tower at most at their front.
+pub fn one_tower()
+    ensures { OneTower }
+{}

@@ -1,0 +1,4 @@
+pub mod Run
+pub mod Sound
+pub mod Complete
+pub mod Answers

@@ -1,0 +1,142 @@
+-- What the reader of lines does, line by line. Apart from the grammar, and tied to it in proofs/.
+-- Source: this project.
+use Rattle.std.specs.Prelude.{ℕ, nat_lt, List, [], ◌∷◌, ◌++◌, length, Result, Ok, Err, if◌then◌else◌}
+use Rattle.loop_data.specs.declared.value.Value.{Value}
+use Rattle.loop_data.specs.declared.expr.Expr.{Expr}
+use Rattle.loop_data.specs.declared.statement.Statement.{Statement}
+use Rattle.loop_data.specs.declared.statement.Statement.TheVariants as s
+use Rattle.loop_data.specs.declared.head.Binding.{Binding}
+use Rattle.loop_grammar.specs.declared.line.Line.{Line}
+use Rattle.loop_grammar.specs.declared.line.Line.TheVariants as l
+use Rattle.loop_grammar.specs.declared.line.Heads.{Heads}
+use Rattle.loop_grammar.specs.declared.line.NumberedLine.{NumberedLine}
+use Rattle.loop_grammar.specs.declared.tree.ProgramTree.{ProgramTree}
+use Rattle.loop_grammar.specs.declared.refusal.SyntaxRefusal.{SyntaxRefusal}
+use Rattle.loop_grammar.specs.declared.refusal.SyntaxRefusal.TheVariants.{BadNesting, TooDeep}
+use Rattle.loop_grammar.specs.Nesting.{head_line}
+use Rattle.loop_nesting.specs.declared.open.Stage.{Stage}
+use Rattle.loop_nesting.specs.declared.open.Stage.TheVariants as stage
+use Rattle.loop_nesting.specs.declared.open.OpenLoop.{OpenLoop}
+use Rattle.loop_nesting.specs.declared.open.OpenIf.{OpenIf}
+use Rattle.loop_nesting.specs.declared.open.Opened.{Opened}
+use Rattle.loop_nesting.specs.declared.open.Opened.TheVariants as opened
+
+-- what one line more makes of what has been read, or why it is refused
+abbrev pub Answer : Type 0
+Answer = Result Stage SyntaxRefusal
+
+-- the most `if`s that may be open within one another
+abbrev pub most_ifs : ℕ
+most_ifs = 15
+
+-- one line more before the loop
+
+-- the loop of the `for` line, before its body
+abbrev pub entered : List Binding → ℕ → Heads → OpenLoop
+entered vars n h = record { vars = vars; line = n; heads = h; scratch = []; ifs = []; block = [] }
+
+abbrev pub in_vars : List Binding → ℕ → Line → Answer
+in_vars vars n (l.Var name v) = Ok (stage.Vars (vars ++ record { line = n; name = name; value = v } ∷ []))
+in_vars vars n (l.For h) = Ok (stage.Loop (entered vars n h))
+in_vars vars n _ = Err (BadNesting n)
+
+-- one line more within the loop
+
+-- an `@init` line, with the open `if`s and the block so far
+abbrev pub init : OpenLoop → ℕ → List ℕ → Value → List OpenIf → List Statement → Answer
+init o n name v [] [] = Ok (stage.Loop (record o { scratch = o.scratch ++ record { line = n; name = name; value = v } ∷ [] }))
+init o n name v _ _ = Err (BadNesting n)
+
+-- a statement of one line
+abbrev pub put : OpenLoop → Statement → Answer
+put o x = Ok (stage.Loop (record o { block = o.block ++ x ∷ [] }))
+
+-- an `if` line, where at most so many `if`s may be open
+abbrev pub deeper : ℕ → OpenLoop → ℕ → Expr → Answer
+deeper most o n x =
+    if nat_lt (length o.ifs) most then
+    Ok (stage.Loop (record o { ifs = record { before = o.block; line = n; branches = []; opened = opened.Test n x } ∷ o.ifs; block = [] }))
+    else Err (TooDeep n)
+
+-- the open `if` where its block is complete and another begins
+abbrev pub next_branch : OpenIf → List Statement → Opened → ℕ → Result OpenIf SyntaxRefusal
+next_branch f block to n = elim f.opened as (λ _. Result OpenIf SyntaxRefusal) [
+  | opened.Test k x ↦ Ok (record f { branches = f.branches ++ record { line = k; test = x; block = block } ∷ []; opened = to })
+  | opened.Else k ↦ Err (BadNesting n)
+]
+
+abbrev pub onward : OpenLoop → List OpenIf → Result OpenIf SyntaxRefusal → Answer
+onward o fs (Ok f) = Ok (stage.Loop (record o { ifs = f ∷ fs; block = [] }))
+onward o fs (Err r) = Err r
+
+-- an `elseif` or `else` line, with the open `if`s
+abbrev pub branched : OpenLoop → ℕ → Opened → List OpenIf → Answer
+branched o n to [] = Err (BadNesting n)
+branched o n to (f ∷ fs) = onward o fs (next_branch f o.block to n)
+
+-- the statement that an open `if` is where its last block is complete and its `end` stands on line m
+abbrev pub whole_if : OpenIf → List Statement → ℕ → Statement
+whole_if f block m = elim f.opened as (λ _. Statement) [
+  | opened.Test k x ↦ s.If f.line (f.branches ++ record { line = k; test = x; block = block } ∷ []) 0 [] m
+  | opened.Else k ↦ s.If f.line f.branches k block m
+]
+
+-- the block around it, up to there
+abbrev pub closed : OpenIf → List Statement → ℕ → List Statement
+closed f block m = f.before ++ whole_if f block m ∷ []
+
+-- the program of the loop that ends on line m
+abbrev pub whole_loop : OpenLoop → ℕ → ProgramTree
+whole_loop o m = record { vars = o.vars; head = head_line o.line o.heads m; scratch = o.scratch; body = o.block; prints = [] }
+
+-- an `end` line, with the open `if`s
+abbrev pub ended : OpenLoop → ℕ → List OpenIf → Answer
+ended o m [] = Ok (stage.Prints (whole_loop o m))
+ended o m (f ∷ fs) = Ok (stage.Loop (record o { ifs = fs; block = closed f o.block m }))
+
+abbrev pub in_loop : ℕ → OpenLoop → ℕ → Line → Answer
+in_loop most o n (l.Init name v) = init o n name v o.ifs o.block
+in_loop most o n (l.Let names x) = put o (s.Let n names x)
+in_loop most o n (l.Set name x) = put o (s.Set n name x)
+in_loop most o n (l.Keep name x) = put o (s.Keep n name x)
+in_loop most o n (l.Reduce name x start) = put o (s.Reduce n name x start)
+in_loop most o n l.Continue = put o (s.Continue n)
+in_loop most o n l.Break = put o (s.Break n)
+in_loop most o n (l.If x) = deeper most o n x
+in_loop most o n (l.ElseIf x) = branched o n (opened.Test n x) o.ifs
+in_loop most o n l.Else = branched o n (opened.Else n) o.ifs
+in_loop most o n l.End = ended o n o.ifs
+in_loop most o n (l.Var name v) = Err (BadNesting n)
+in_loop most o n (l.For h) = Err (BadNesting n)
+in_loop most o n (l.Print name) = Err (BadNesting n)
+
+-- one line more behind the loop
+abbrev pub in_prints : ProgramTree → ℕ → Line → Answer
+in_prints p n (l.Print name) = Ok (stage.Prints (record p { prints = p.prints ++ record { line = n; name = name } ∷ [] }))
+in_prints p n _ = Err (BadNesting n)
+
+-- one line more
+abbrev pub step : ℕ → Stage → NumberedLine → Answer
+step most (stage.Vars vars) x = in_vars vars x.line x.form
+step most (stage.Loop o) x = in_loop most o x.line x.form
+step most (stage.Prints p) x = in_prints p x.line x.form
+
+-- line after line, up to the first that is refused
+
+abbrev pub run : ℕ → Stage → List NumberedLine → Answer
+run most at [] = Ok at
+run most at (x ∷ lines) = elim (step most at x) as (λ _. Answer) [ Ok b ↦ run most b lines | Err r ↦ Err r ]
+
+-- the same from what the first of them made
+abbrev pub run_on : ℕ → List NumberedLine → Answer → Answer
+run_on most lines a = elim a as (λ _. Answer) [ Ok b ↦ run most b lines | Err r ↦ Err r ]
+
+-- the program, if the lines may end there; `end` is the line behind the last
+abbrev pub finish : ℕ → Answer → Result ProgramTree SyntaxRefusal
+finish end (Ok (stage.Prints p)) = Ok p
+finish end (Ok _) = Err (BadNesting end)
+finish end (Err r) = Err r
+
+-- the whole answer
+abbrev pub answer : List NumberedLine → ℕ → Result ProgramTree SyntaxRefusal
+answer lines end = finish end (run most_ifs (stage.Vars []) lines)

@@ -1,0 +1,378 @@
+//! Reads the lines, one after the other.
+
+ghost use Rattle.std.specs.Prelude.{◌≡◌, ◌≢◌, [], Ok, Err, IfOk};
+ghost use Rattle.loop_grammar.specs.declared.refusal.SyntaxRefusal.TheVariants as refusal;
+ghost use Rattle.loop_grammar.specs.Nesting.{Nests, most_blocks};
+ghost use Rattle.loop_nesting.specs.Reading.{step, in_vars, in_loop, in_prints, init, deeper, branched, ended, put, entered, closed, next_branch, run, finish, most_ifs};
+ghost use Rattle.loop_nesting.specs.declared.open.Stage.TheVariants as stage;
+ghost use Rattle.loop_nesting.specs.Claims.{RefusesNesting};
+
+use crate::open::{OpenIf, OpenLoop, Opened, Stage};
+use crate::stack::Stack;
+use edge_io::NoMemory;
+use loop_data::{Binding, Branch, Expr, HeadLine, Many, PrintLine, Statement, TextValue, Value};
+use loop_grammar::{Heads, Line, NumberedLine, ProgramTree, SyntaxRefusal};
+use std::alloc::Global;
+use std::collections::VecDeque;
+
+/// The most `if`s that may be open within one another: the loop's block is the first of 16.
+const MOST_IFS: usize = 15;
+
+impl OpenIf {
+    /// The same with the block complete and another begun by an `elseif` or `else` on the line; after `else` that is bad.
+    fn next_branch(
+        self,
+        alloc: Global,
+        block: Many<Statement>,
+        opened: Opened,
+        line: u32,
+    ) -> Result<OpenIf, SyntaxRefusal>
+        ensures { result ≢ Err refusal.NoMemory → result ≡ next_branch self block opened line }
+    {
+        let OpenIf {
+            before,
+            line: if_line,
+            mut branches,
+            opened: last,
+        } = self;
+        match last {
+            Opened::Test {
+                line: test_line,
+                test,
+            } => {
+                branches.push(
+                    alloc,
+                    Branch {
+                        line: test_line,
+                        test,
+                        block,
+                    },
+                )?;
+                Ok(OpenIf {
+                    before,
+                    line: if_line,
+                    branches,
+                    opened,
+                })
+            }
+            Opened::Else { .. } => Err(SyntaxRefusal::BadNesting { line }),
+        }
+    }
+
+    /// The block around the `if`, up to and with the `if`, whose last block is complete and whose `end` stands on the line.
+    fn closed(
+        self,
+        alloc: Global,
+        block: Many<Statement>,
+        end_line: u32,
+    ) -> Result<Many<Statement>, NoMemory>
+        ensures { IfOk result (λ xs. xs ≡ closed self block end_line) }
+    {
+        let OpenIf {
+            mut before,
+            line,
+            mut branches,
+            opened,
+        } = self;
+        match opened {
+            Opened::Test {
+                line: test_line,
+                test,
+            } => {
+                branches.push(
+                    alloc,
+                    Branch {
+                        line: test_line,
+                        test,
+                        block,
+                    },
+                )?;
+                before.push(
+                    alloc,
+                    Statement::If {
+                        line,
+                        branches,
+                        else_line: 0,
+                        other: Many::new(alloc),
+                        end_line,
+                    },
+                )?;
+            }
+            Opened::Else { line: else_line } => {
+                before.push(
+                    alloc,
+                    Statement::If {
+                        line,
+                        branches,
+                        else_line,
+                        other: block,
+                        end_line,
+                    },
+                )?;
+            }
+        }
+        Ok(before)
+    }
+}
+
+impl OpenLoop {
+    /// The loop of a `for` line, before its body.
+    fn entered(alloc: Global, vars: Many<Binding>, line: u32, heads: Heads) -> OpenLoop
+        ensures { result ≡ entered vars line heads }
+    {
+        OpenLoop {
+            vars,
+            line,
+            heads,
+            scratch: Many::new(alloc),
+            ifs: Stack::new(alloc),
+            block: Many::new(alloc),
+        }
+    }
+
+    /// An `@init` line, which stands before every other line of the body.
+    fn init(
+        mut self,
+        alloc: Global,
+        line: u32,
+        name: TextValue,
+        value: Value,
+    ) -> Result<Stage, SyntaxRefusal>
+        ensures { result ≢ Err refusal.NoMemory → result ≡ init self line name value self.ifs self.block }
+    {
+        if !self.ifs.is_empty() || !self.block.is_empty() {
+            return Err(SyntaxRefusal::BadNesting { line });
+        }
+        self.scratch.push(alloc, Binding { line, name, value })?;
+        Ok(Stage::Loop(self))
+    }
+
+    /// A statement of one line.
+    fn put(mut self, alloc: Global, statement: Statement) -> Result<Stage, SyntaxRefusal>
+        ensures { result ≢ Err refusal.NoMemory → result ≡ put self statement }
+    {
+        self.block.push(alloc, statement)?;
+        Ok(Stage::Loop(self))
+    }
+
+    /// An `if` line, which opens a block within the innermost one.
+    fn deeper(self, alloc: Global, line: u32, test: Expr) -> Result<Stage, SyntaxRefusal>
+        ensures { result ≢ Err refusal.NoMemory → result ≡ deeper most_ifs self line test }
+    {
+        if self.ifs.len() >= MOST_IFS {
+            return Err(SyntaxRefusal::TooDeep { line });
+        }
+        let OpenLoop {
+            vars,
+            line: for_line,
+            heads,
+            scratch,
+            mut ifs,
+            block,
+        } = self;
+        ifs.push(OpenIf {
+            before: block,
+            line,
+            branches: Many::new(alloc),
+            opened: Opened::Test { line, test },
+        })?;
+        Ok(Stage::Loop(OpenLoop {
+            vars,
+            line: for_line,
+            heads,
+            scratch,
+            ifs,
+            block: Many::new(alloc),
+        }))
+    }
+
+    /// An `elseif` or `else` line.
+    fn branched(self, alloc: Global, line: u32, opened: Opened) -> Result<Stage, SyntaxRefusal>
+        ensures { result ≢ Err refusal.NoMemory → result ≡ branched self line opened self.ifs }
+    {
+        let OpenLoop {
+            vars,
+            line: for_line,
+            heads,
+            scratch,
+            mut ifs,
+            block,
+        } = self;
+        let Some(innermost) = ifs.pop() else {
+            return Err(SyntaxRefusal::BadNesting { line });
+        };
+        ifs.push(innermost.next_branch(alloc, block, opened, line)?)?;
+        Ok(Stage::Loop(OpenLoop {
+            vars,
+            line: for_line,
+            heads,
+            scratch,
+            ifs,
+            block: Many::new(alloc),
+        }))
+    }
+
+    /// An `end` line, which closes the innermost `if`, or else the loop.
+    fn ended(self, alloc: Global, end_line: u32) -> Result<Stage, SyntaxRefusal>
+        ensures { result ≢ Err refusal.NoMemory → result ≡ ended self end_line self.ifs }
+    {
+        let OpenLoop {
+            vars,
+            line,
+            heads,
+            scratch,
+            mut ifs,
+            block,
+        } = self;
+        let Some(innermost) = ifs.pop() else {
+            let Heads {
+                names,
+                axes,
+                product,
+                inner,
+            } = heads;
+            return Ok(Stage::Prints(ProgramTree {
+                vars,
+                head: HeadLine {
+                    line,
+                    names,
+                    axes,
+                    product,
+                    inner,
+                    end_line,
+                },
+                scratch,
+                body: block,
+                prints: Many::new(alloc),
+            }));
+        };
+        let block = innermost.closed(alloc, block, end_line)?;
+        Ok(Stage::Loop(OpenLoop {
+            vars,
+            line,
+            heads,
+            scratch,
+            ifs,
+            block,
+        }))
+    }
+
+    /// One line more within the loop.
+    fn in_loop(self, alloc: Global, line: u32, form: Line) -> Result<Stage, SyntaxRefusal>
+        ensures { result ≢ Err refusal.NoMemory → result ≡ in_loop most_ifs self line form }
+    {
+        match form {
+            Line::Init { name, value } => self.init(alloc, line, name, value),
+            Line::Let { names, expr } => self.put(alloc, Statement::Let { line, names, expr }),
+            Line::Set { name, expr } => self.put(alloc, Statement::Set { line, name, expr }),
+            Line::Keep { name, expr } => self.put(alloc, Statement::Keep { line, name, expr }),
+            Line::Reduce { name, tower, start } => {
+                self.put(
+                    alloc,
+                    Statement::Reduce {
+                        line,
+                        name,
+                        tower,
+                        start,
+                    },
+                )
+            }
+            Line::Continue => self.put(alloc, Statement::Continue { line }),
+            Line::Break => self.put(alloc, Statement::Break { line }),
+            Line::If(test) => self.deeper(alloc, line, test),
+            Line::ElseIf(test) => self.branched(alloc, line, Opened::Test { line, test }),
+            Line::Else => self.branched(alloc, line, Opened::Else { line }),
+            Line::End => self.ended(alloc, line),
+            Line::Var { .. } | Line::For(_) | Line::Print(_) => {
+                Err(SyntaxRefusal::BadNesting { line })
+            }
+        }
+    }
+}
+
+/// One line more before the loop.
+fn in_vars(
+    alloc: Global,
+    mut vars: Many<Binding>,
+    line: u32,
+    form: Line,
+) -> Result<Stage, SyntaxRefusal>
+    ensures { result ≢ Err refusal.NoMemory → result ≡ in_vars vars line form }
+{
+    match form {
+        Line::Var { name, value } => {
+            vars.push(alloc, Binding { line, name, value })?;
+            Ok(Stage::Vars(vars))
+        }
+        Line::For(heads) => Ok(Stage::Loop(OpenLoop::entered(alloc, vars, line, heads))),
+        _ => Err(SyntaxRefusal::BadNesting { line }),
+    }
+}
+
+/// One line more behind the loop.
+fn in_prints(
+    alloc: Global,
+    mut program: ProgramTree,
+    line: u32,
+    form: Line,
+) -> Result<Stage, SyntaxRefusal>
+    ensures { result ≢ Err refusal.NoMemory → result ≡ in_prints program line form }
+{
+    match form {
+        Line::Print(name) => {
+            program.prints.push(alloc, PrintLine { line, name })?;
+            Ok(Stage::Prints(program))
+        }
+        _ => Err(SyntaxRefusal::BadNesting { line }),
+    }
+}
+
+impl Stage {
+    /// One line more.
+    fn step(self, alloc: Global, next: NumberedLine) -> Result<Stage, SyntaxRefusal>
+        ensures { result ≢ Err refusal.NoMemory → result ≡ step most_ifs self next }
+    {
+        let NumberedLine { line, form } = next;
+        match self {
+            Stage::Vars(vars) => in_vars(alloc, vars, line, form),
+            Stage::Loop(open) => open.in_loop(alloc, line, form),
+            Stage::Prints(program) => in_prints(alloc, program, line, form),
+        }
+    }
+
+    /// The program, if the lines may end here; `end` is the line behind the last.
+    fn finish(self, end: u32) -> Result<ProgramTree, SyntaxRefusal>
+        ensures { result ≡ finish end (Ok self) }
+    {
+        match self {
+            Stage::Prints(program) => Ok(program),
+            Stage::Vars(_) | Stage::Loop(_) => Err(SyntaxRefusal::BadNesting { line: end }),
+        }
+    }
+}
+
+/// Reads all lines.
+fn run(alloc: Global, mut lines: VecDeque<NumberedLine>) -> Result<Stage, SyntaxRefusal>
+    ensures { result ≢ Err refusal.NoMemory → result ≡ run most_ifs (stage.Vars []) lines.items }
+{
+    let mut stage = Stage::Vars(Many::new(alloc));
+    while let Some(line) = lines.pop_front() {
+        stage = stage.step(alloc, line)?;
+    }
+    Ok(stage)
+}
+
+/// The program whose lines these are; they are moved into it, and nothing is copied. `end` is the number of the line behind
+/// the last of the text, blank lines being counted. Refused, unless memory runs out (`NoMemory`), with the first line that
+/// breaks the nesting: `TooDeep` where it opens a 17th block, the loop's being the first, and could stand there otherwise;
+/// `BadNesting` for every other; `BadNesting` of `end` where the lines end too early.
+pub fn nest(
+    alloc: Global,
+    lines: VecDeque<NumberedLine>,
+    end: u32,
+) -> Result<ProgramTree, SyntaxRefusal>
+    ensures program { IfOk result (λ p. Nests most_blocks p lines.items) }
+    ensures refusal { RefusesNesting lines.items end result }
+{
+    run(alloc, lines)?.finish(end)
+}
