@@ -1,0 +1,12 @@
+pub mod LongestTokens
+pub mod ReadableWords
+pub mod ReadableTokens
+pub mod TokenTexts
+pub mod RowLines
+pub mod LineBytes
+pub mod WrittenUtf8
+pub mod ReadUtf8
+pub mod Spacing
+pub mod LineSpacing
+pub mod KeptTokens
+pub mod KeptLines

@@ -1,14 +1,12 @@
 -- The canonical text of a program: each line on its own number, two spaces for each open block, one space between tokens but where the rules say none.
 -- Source: this project's language.
-use Rattle.std.specs.Prelude.{ℕ, zero, suc, ◌+◌, ◌*◌, Bool, true, false, List, [], ◌∷◌, ◌++◌, map, flat_map, replicate, Option, Some, None, ℤ, pos, negsuc, if◌then◌else◌}
+use Rattle.std.specs.Prelude.{ℕ, suc, ◌*◌, Bool, true, false, List, [], ◌∷◌, ◌++◌, map, replicate, Option, Some, None, ℤ, pos, negsuc, if◌then◌else◌}
 use Rattle.std.specs.Fmt.{signed_decimal}
 use Rattle.loop_tokens.specs.declared.token.Token.{Token}
 use Rattle.loop_tokens.specs.declared.token.Token.TheVariants as tok
 use Rattle.loop_tokens.specs.declared.keyword.Keyword.{Keyword}
 use Rattle.loop_tokens.specs.declared.keyword.Keyword.TheVariants as kw
-use Rattle.loop_tokens.specs.declared.keyword.AtWord.{AtWord}
 use Rattle.loop_tokens.specs.declared.keyword.AtWord.TheVariants as at
-use Rattle.loop_tokens.specs.declared.sign.Sign.{Sign}
 use Rattle.loop_tokens.specs.declared.sign.Sign.TheVariants as sg
 use Rattle.loop_tokens.specs.Literals.{escaped}
 use Rattle.loop_data.specs.declared.value.Value.{Value}
@@ -28,15 +26,12 @@ use Rattle.loop_data.specs.declared.tower.TowerExpr.{TowerExpr}
 use Rattle.loop_data.specs.declared.tower.TowerExpr.TheVariants as tower
 use Rattle.loop_data.specs.declared.tower.TowerExpr.TheOpen.{TowerExpr-F, TowerExpr-F as t}
 use Rattle.loop_data.specs.declared.tower.TowerExpr.TheFolds.{fold-TowerExpr}
-use Rattle.loop_data.specs.declared.statement.Statement.{Statement}
-use Rattle.loop_data.specs.declared.statement.Branch.{Branch}
 use Rattle.loop_data.specs.declared.head.Axis.{Axis}
 use Rattle.loop_data.specs.declared.head.Axis.TheOpen.{Axis-F, Axis-F as x}
 use Rattle.loop_data.specs.declared.head.Axis.TheFolds.{fold-Axis}
 use Rattle.loop_data.specs.declared.head.Inner.{Inner}
 use Rattle.loop_grammar.specs.declared.line.Line.{Line}
 use Rattle.loop_grammar.specs.declared.line.Line.TheVariants as l
-use Rattle.loop_grammar.specs.declared.line.Heads.{Heads}
 use Rattle.loop_layout.specs.Layout.{Mark, marks_text}
 
 -- a token behind a space, and one directly behind what comes before it

@@ -1,10 +1,8 @@
 -- Tokens as they are written in a line, with the spaces before them.
 -- Source: this project's language.
-use Rattle.std.specs.Prelude.{◌≡◌, ℕ, Bool, true, false, ◌||◌, List, [], ◌∷◌, ◌++◌, flat_map, map, Option, Some, if◌then◌else◌}
+use Rattle.std.specs.Prelude.{◌≡◌, ℕ, Bool, true, false, ◌||◌, List, [], ◌∷◌, ◌++◌, flat_map, map, Some, if◌then◌else◌}
 use Rattle.loop_tokens.specs.declared.token.Token.{Token}
 use Rattle.loop_tokens.specs.declared.token.Token.TheVariants as tok
-use Rattle.loop_tokens.specs.declared.keyword.Keyword.{Keyword}
-use Rattle.loop_tokens.specs.declared.sign.Sign.{Sign}
 use Rattle.loop_tokens.specs.declared.sign.Sign.TheVariants as sg
 use Rattle.loop_tokens.specs.Keywords.{keyword_text, at_text}
 use Rattle.loop_tokens.specs.Signs.{sign_text}

@@ -1,7 +1,6 @@
 -- A text of lines that stand on lines of given numbers, with empty lines between them.
 -- Source: this project's language.
-use Rattle.std.specs.Prelude.{◌≡◌, ◌≢◌, ℕ, ◌+◌, ◌-◌, ◌*◌, ◌≤◌, List, [], ◌∷◌, ◌++◌, replicate}
-use Rattle.std.specs.List.{Contains}
+use Rattle.std.specs.Prelude.{◌≡◌, ℕ, ◌+◌, ◌-◌, ◌≤◌, List, [], ◌∷◌, ◌++◌, replicate}
 
 -- the bytes of a line, and its number
 pub record Row : Type 0 where

@@ -1,0 +1,12 @@
+pub mod Writes
+pub mod Lists
+pub mod Numbers
+pub mod Expressions
+pub mod SpelledLines
+pub mod Tidy
+pub mod TidyExprs
+pub mod TidyLines
+pub mod Placing
+pub mod TextLines
+pub mod WrittenBack
+pub mod Parts
