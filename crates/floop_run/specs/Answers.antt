@@ -1,6 +1,6 @@
 -- The answer of a call: its status and the text that it writes, from the words and what files hold. No thread,
 -- part or schedule is in it. Source: this project.
-use Rattle.std.specs.Prelude.{ℕ, List, [], ◌∷◌, ◌++◌, length, codes, nat_le, if◌then◌else◌, Option, Some, None}
+use Rattle.std.specs.Prelude.{◌≡◌, ℕ, ◌<◌, ◌≤◌, List, [], ◌∷◌, ◌++◌, length, codes, Option, Some, None}
 use Rattle.std.specs.FinMap.{get}
 use Rattle.std.specs.Fmt.{decimal}
 use Rattle.edge_io.specs.Reading.{Held}
@@ -8,7 +8,11 @@ use Rattle.loop_data.specs.declared.tower.Kind.TheVariants as kind
 use Rattle.loop_values.specs.declared.stop.EvalStop.{EvalStop}
 use Rattle.loop_values.specs.declared.stop.EvalStop.TheVariants as stop
 use Rattle.loop_values.specs.ResultTexts.{result_text}
-use Rattle.loop_syntax.specs.Programs.{Loop, program_of}
+use Rattle.loop_grammar.specs.declared.tree.ProgramTree.{ProgramTree}
+use Rattle.loop_grammar.specs.declared.refusal.SyntaxRefusal.{SyntaxRefusal}
+use Rattle.loop_grammar.specs.declared.refusal.SyntaxRefusal.TheVariants as refusal
+use Rattle.loop_grammar.specs.Texts.{SpellsProgram, FirstRefusal}
+use Rattle.floop_run.specs.BuiltForm.{Loop, loop_of}
 use Rattle.floop_run.specs.declared.status.Status.{Status}
 use Rattle.floop_run.specs.declared.status.Status.TheVariants as status
 use Rattle.floop_run.specs.Items.{items_of}
@@ -54,26 +58,55 @@ run_answer loop run (faulted place at stop) =
 unfoldable pub loop_answer : Loop → Answer
 loop_answer loop = let run = loop_run loop (start_store loop) (items_of loop) 1 in run_answer loop run run.end
 
--- the answer for the program that the loop file spells, if it spells one
-abbrev pub program_answer : Option Loop → Answer
-program_answer None = refused (codes "form not built")
-program_answer (Some loop) = loop_answer loop
+-- the answer for a program's loop, if it is of the form that runs
+abbrev pub built_answer : Option Loop → Answer
+built_answer None = refused (codes "form not built")
+built_answer (Some loop) = loop_answer loop
+
+abbrev pub program_answer : ProgramTree → Answer
+program_answer program = built_answer (loop_of program)
+
+-- What a refusal of the loop file's text is called. Want of memory is none.
+abbrev pub syntax_text : SyntaxRefusal → List ℕ
+syntax_text (refusal.NotUtf8 n) = codes "byte " ++ decimal n ++ codes ": not UTF-8"
+syntax_text (refusal.NotALine n) = codes "line " ++ decimal n ++ codes ": not a line of the language"
+syntax_text (refusal.BadNesting n) = codes "line " ++ decimal n ++ codes ": bad nesting"
+syntax_text (refusal.TooDeep n) = codes "line " ++ decimal n ++ codes ": too deep"
+syntax_text (refusal.NumberTooWide n) = codes "line " ++ decimal n ++ codes ": number too wide"
+syntax_text refusal.NoMemory = []
+
+-- The answer for the text of a loop file, within the limit: its first refusal, or what its program gives.
+pub data IsTextAnswer : List ℕ → Answer → Type 0 where
+  refused_text : {text : List ℕ} {r : SyntaxRefusal} → FirstRefusal text r → IsTextAnswer text (refused (syntax_text r))
+  read : {text : List ℕ} {program : ProgramTree} → SpellsProgram text program → IsTextAnswer text (program_answer program)
 
 -- the answer for the bytes of the loop file, if it is held
-abbrev pub file_answer : Option (List ℕ) → Answer
-file_answer None = not_held
-file_answer (Some bytes) =
-    if nat_le (length bytes) loop_file_limit then program_answer (program_of bytes) else refused (codes "loop file: over 65536 bytes")
+pub data IsFileAnswer : Option (List ℕ) → Answer → Type 0 where
+  missing : IsFileAnswer None not_held
+  too_long : {bytes : List ℕ} → loop_file_limit < length bytes → IsFileAnswer (Some bytes) (refused (codes "loop file: over 65536 bytes"))
+  within : {bytes : List ℕ} {answer : Answer} → length bytes ≤ loop_file_limit → IsTextAnswer bytes answer → IsFileAnswer (Some bytes) answer
 
 -- the answer where the words name no loop file
 abbrev pub words_answer : Answer
 words_answer = refused (codes "form not built")
 
 -- the answer for the name of the loop file, if the words give one
-abbrev pub name_answer : Option (List ℕ) → Held → Answer
-name_answer None held = words_answer
-name_answer (Some name) held = file_answer (get held name)
+pub data IsNameAnswer : Option (List ℕ) → Held → Answer → Type 0 where
+  no_name : {held : Held} → IsNameAnswer None held words_answer
+  named : {name : List ℕ} {held : Held} {answer : Answer} → IsFileAnswer (get held name) answer → IsNameAnswer (Some name) held answer
 
 -- The answer of a call with these words over these files.
-abbrev pub answer_of : List (List ℕ) → Held → Answer
-answer_of words held = name_answer (loop_name words) held
+abbrev pub IsAnswer : List (List ℕ) → Held → Answer → Type 0
+IsAnswer words held answer = IsNameAnswer (loop_name words) held answer
+
+-- words over files have one answer at most
+abbrev pub OneAnswer : Type 0
+OneAnswer = (words : List (List ℕ)) (held : Held) (answer also : Answer) → IsAnswer words held answer → IsAnswer words held also → answer ≡ also
+
+-- no words over files are without an answer
+abbrev pub SomeAnswer : Type 0
+SomeAnswer = (words : List (List ℕ)) (held : Held) → ((answer : Answer) → IsAnswer words held answer → ⊥) → ⊥
+
+-- no loop of the form that runs faults
+abbrev pub BuiltLoopsAreDone : Type 0
+BuiltLoopsAreDone = (program : ProgramTree) (loop : Loop) → loop_of program ≡ Some loop → (program_answer program).status ≡ status.Done

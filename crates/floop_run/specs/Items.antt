@@ -3,7 +3,7 @@
 use Rattle.std.specs.Prelude.{ℕ, zero, suc, List, [], ◌∷◌, map, ℤ, pos, ◌+ℤ◌}
 use Rattle.loop_data.specs.declared.value.Value.{Value}
 use Rattle.loop_data.specs.declared.value.Value.TheVariants.{Int}
-use Rattle.loop_syntax.specs.Programs.{Loop, range_count}
+use Rattle.floop_run.specs.BuiltForm.{Loop, range_count}
 
 -- so many integers from the first on, each one more than the last
 abbrev pub integers_from : ℤ → ℕ → List ℤ

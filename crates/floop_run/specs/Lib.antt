@@ -1,4 +1,7 @@
 pub mod Answers
+pub mod BuiltForm
+pub mod BuiltViews
+pub mod Inputs
 pub mod Items
 pub mod Outputs
 pub mod PlainLoop

@@ -3,13 +3,12 @@
 use Rattle.std.specs.Prelude.{ℕ, ◌+◌, List, [], ◌∷◌, ◌++◌, map, filter, Ok, Err}
 use Rattle.std.specs.Str.{bytes_eq}
 use Rattle.std.specs.FinMap.{empty, get, insert}
-use Rattle.loop_data.specs.declared.expr.Expr.TheVariants as e
 use Rattle.loop_values.specs.declared.stop.EvalStop.{EvalStop}
 use Rattle.loop_data.specs.declared.value.Value.{Value}
 use Rattle.loop_values.specs.Bindings.{Bindings}
 use Rattle.loop_values.specs.Operations.{Outcome}
 use Rattle.loop_values.specs.Values.{value_of}
-use Rattle.loop_syntax.specs.Programs.{Loop}
+use Rattle.floop_run.specs.BuiltForm.{Loop}
 
 -- The values of the outer variables and the scratches. The form that is built has neither.
 abbrev pub Store : Type 0
@@ -35,18 +34,14 @@ pub record Step : Type 0 where
   pub emitted : List Emitted
   pub end : StepEnd
 
--- the line of the built form that reduces
-abbrev pub line_of_reduce : ℕ
-line_of_reduce = 2
-
 -- an `@reduce` line emits the value of its expression, or ends the step with the fault
 abbrev pub reduced : Loop → Store → Outcome → Step
 reduced loop store (Ok value) = record { store = store; emitted = record { name = loop.reducer; input = value } ∷ []; end = goes_on }
-reduced loop store (Err stop) = record { store = store; emitted = []; end = faults line_of_reduce stop }
+reduced loop store (Err stop) = record { store = store; emitted = []; end = faults loop.line stop }
 
 -- One step of the body for one item: the loop variable is bound to the item, and the body's line reduces.
 abbrev pub body_step : Loop → Store → Value → Step
-body_step loop store item = reduced loop store (value_of (e.Name loop.variable) (get (insert store loop.variable item)))
+body_step loop store item = reduced loop store (value_of loop.summand (get (insert store loop.variable item)))
 
 -- how a run ends: it ran to its end, or a fault stopped it at an item's place, in a line
 pub data RunEnd : Type 0 where

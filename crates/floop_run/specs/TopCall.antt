@@ -1,10 +1,11 @@
 -- What a top call wrote, against the answer.
 -- Source: this project.
 use Rattle.std.specs.Prelude.{◌≡◌, ℕ, List, Option, map, flat_map, String, string_bytes}
-use Rattle.edge_io.specs.Writing.{Puts}
+use Rattle.edge_io.specs.Writing.{Puts, PutsPrefix}
 use Rattle.floop_run.specs.declared.status.Status.{Status}
 use Rattle.floop_run.specs.declared.status.Status.TheVariants as status
-use Rattle.floop_run.specs.Answers.{Answer}
+use Rattle.edge_io.specs.Reading.{Held}
+use Rattle.floop_run.specs.Answers.{Answer, IsAnswer}
 
 -- the words as lists of bytes
 abbrev pub texts : {A : Type 0} → List (String A) → List (List ℕ)
@@ -15,6 +16,14 @@ texts words = map string_bytes words
 pub record Gives (answer : Answer) (given : Status) (before now : Option (List ℕ)) : Type 0 where
   pub status : given ≡ answer.status
   pub text : Puts before now answer.text
+
+-- The same for the answer of these words over these files.
+abbrev pub GivesAnswer : List (List ℕ) → Held → Status → Option (List ℕ) → Option (List ℕ) → Type 0
+GivesAnswer words held given before now = (answer : Answer) × IsAnswer words held answer × Gives answer given before now
+
+-- what was written is a prefix of the answer's text
+abbrev pub PutsAnswerPrefix : List (List ℕ) → Held → Option (List ℕ) → Option (List ℕ) → Type 0
+PutsAnswerPrefix words held before now = (answer : Answer) × IsAnswer words held answer × PutsPrefix before now answer.text
 
 -- the statuses by which a call gives an answer's text
 abbrev pub IsAnswered : Status → Type 0

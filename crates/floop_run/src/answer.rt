@@ -1,16 +1,21 @@
 ghost use Rattle.std.specs.Prelude.{◌≡◌, ◌≢◌, ◌≤◌, None, Err, IfOk, IfSome, IsSome, length, string_bytes};
+ghost use Rattle.std.specs.FinMap.{get};
 ghost use Rattle.edge_io.specs.Faults.{Rose};
-ghost use Rattle.loop_syntax.specs.Programs.{program_of};
-ghost use Rattle.floop_run.specs.Answers.{answer_of, words_answer, not_held, program_answer, loop_answer, refused};
+ghost use Rattle.loop_grammar.specs.declared.refusal.SyntaxRefusal.TheVariants as syntax;
+ghost use Rattle.floop_run.specs.Answers.{IsAnswer, IsFileAnswer, IsTextAnswer, words_answer, not_held, program_answer, loop_answer, loop_file_limit, refused, syntax_text};
+ghost use Rattle.floop_run.specs.BuiltForm.{IsBuilt};
+ghost use Rattle.floop_run.specs.BuiltViews.{loop_seen};
 ghost use Rattle.floop_run.specs.TopCall.{texts, IsAnswered};
 ghost use Rattle.floop_run.specs.Outputs.{answer_in};
 ghost use Rattle.floop_run.specs.Words.{loop_name};
 
 use crate::Status;
+use crate::form::{BuiltLoop, loop_of};
 use crate::run::sum_items;
 use crate::words::loop_name;
 use edge_io::{Files, NoMemory, ReadStop};
-use loop_syntax::{Program, SyntaxRefusal, read_program};
+use loop_grammar::ProgramTree;
+use loop_syntax::{SyntaxRefusal, read_program};
 use std::alloc::Global;
 
 /// The most bytes of a loop file.
@@ -51,24 +56,36 @@ pub fn output_for<F: Files>(
     words: &[String],
     files: &mut F,
 ) -> Result<Output, OutputStop>
-    ensures output { IfSome (F.held files.old) (λ held. IfOk result (λ o. answer_in o ≡ answer_of (texts words.now) held)) }
+    ensures output { IfSome (F.held files.old) (λ held. IfOk result (λ o. IsAnswer (texts words.now) held (answer_in o))) }
     ensures words { loop_name (texts words.now) ≡ None → IfOk result (λ o. answer_in o ≡ words_answer) }
     ensures answered { IfOk result (λ o. IsAnswered o.status) }
     ensures read_fault_words { result ≡ Err OutputStop.ReadFault → IsSome (loop_name (texts words.now)) }
     ensures read_fault { IfSome (F.held files.old) (λ held.
         (Rose (F.faults files.old) (F.faults files.new) → ⊥) → result ≡ Err OutputStop.ReadFault →
-        answer_of (texts words.now) held ≡ not_held) }
+        IsAnswer (texts words.now) held not_held) }
     ensures held { F.held files.new ≡ F.held files.old }
 {
-    let Some(name) = loop_name(words) else {
-        return Ok(refusal(alloc, "form not built")?);
-    };
+    match loop_name(words) {
+        Some(name) => named_output(alloc, name, files),
+        None => Ok(refusal(alloc, "form not built")?),
+    }
+}
+
+/// The output for the name of the loop file.
+fn named_output<F: Files>(alloc: Global, name: &str, files: &mut F) -> Result<Output, OutputStop>
+    ensures output { IfSome (F.held files.old) (λ held. IfOk result (λ o. IsFileAnswer (get held name.now) (answer_in o))) }
+    ensures answered { IfOk result (λ o. IsAnswered o.status) }
+    ensures read_fault { IfSome (F.held files.old) (λ held.
+        (Rose (F.faults files.old) (F.faults files.new) → ⊥) → result ≡ Err OutputStop.ReadFault → get held name.now ≡ None) }
+    ensures held { F.held files.new ≡ F.held files.old }
+{
     let mut bytes = Vec::new(alloc);
     match files.read_named(alloc, name, LOOP_FILE_LIMIT, &mut bytes) {
         Ok(()) => Ok(file_output(alloc, &bytes)?),
         Err(ReadStop::TooLong) => Ok(refusal(alloc, "loop file: over 65536 bytes")?),
         Err(ReadStop::NoMemory) => Err(OutputStop::NoMemory),
-        Err(ReadStop::Failed | ReadStop::NotHeld) => Err(OutputStop::ReadFault),
+        Err(ReadStop::NotHeld) => Err(OutputStop::ReadFault),
+        Err(ReadStop::Failed) => Err(OutputStop::ReadFault),
     }
 }
 
@@ -82,23 +99,63 @@ fn refusal(alloc: Global, text: &str) -> Result<Output, NoMemory>
 
 /// The output for the bytes of the loop file.
 fn file_output(alloc: Global, bytes: &[u8]) -> Result<Output, NoMemory>
-    requires { length bytes.now ≤ 65536 }
-    ensures answer { IfOk result (λ o. answer_in o ≡ program_answer (program_of bytes.now)) }
+    requires { length bytes.now ≤ loop_file_limit }
+    ensures answer { IfOk result (λ o. IsTextAnswer bytes.now (answer_in o)) }
     ensures answered { IfOk result (λ o. IsAnswered o.status) }
 {
     match read_program(alloc, bytes) {
-        Ok(program) => loop_output(alloc, &program),
-        Err(SyntaxRefusal::NotBuilt) => refusal(alloc, "form not built"),
-        Err(SyntaxRefusal::NoMemory) => Err(NoMemory),
+        Ok(program) => program_output(alloc, program.tree()),
+        Err(refusal) => syntax_output(alloc, refusal),
+    }
+}
+
+/// What a refusal of the loop file's text is called.
+fn syntax_text(alloc: Global, why: SyntaxRefusal) -> Result<String, NoMemory>
+    ensures text { IfOk result (λ t. string_bytes t ≡ syntax_text why) }
+    ensures memory { IfOk result (λ _. why ≢ syntax.NoMemory) }
+{
+    match why {
+        SyntaxRefusal::NotUtf8 { byte } => Ok(format!(in alloc; "byte {byte}: not UTF-8")?),
+        SyntaxRefusal::NotALine { line } => {
+            Ok(format!(in alloc; "line {line}: not a line of the language")?)
+        }
+        SyntaxRefusal::BadNesting { line } => Ok(format!(in alloc; "line {line}: bad nesting")?),
+        SyntaxRefusal::TooDeep { line } => Ok(format!(in alloc; "line {line}: too deep")?),
+        SyntaxRefusal::NumberTooWide { line } => {
+            Ok(format!(in alloc; "line {line}: number too wide")?)
+        }
+        SyntaxRefusal::NoMemory => Err(NoMemory),
+    }
+}
+
+/// The output for a loop file that spells no program.
+fn syntax_output(alloc: Global, why: SyntaxRefusal) -> Result<Output, NoMemory>
+    ensures answer { IfOk result (λ o. answer_in o ≡ refused (syntax_text why)) }
+    ensures memory { IfOk result (λ _. why ≢ syntax.NoMemory) }
+    ensures answered { IfOk result (λ o. IsAnswered o.status) }
+{
+    let text = syntax_text(alloc, why)?;
+    refusal(alloc, text.as_str())
+}
+
+/// The output of a program, which is its sum where it is of the form that runs.
+fn program_output(alloc: Global, program: &ProgramTree) -> Result<Output, NoMemory>
+    ensures answer { IfOk result (λ o. answer_in o ≡ program_answer program.now) }
+    ensures answered { IfOk result (λ o. IsAnswered o.status) }
+{
+    match loop_of(program) {
+        Some(built) => loop_output(alloc, &built),
+        None => refusal(alloc, "form not built"),
     }
 }
 
 /// The output of the loop, which is its sum.
-fn loop_output(alloc: Global, program: &Program) -> Result<Output, NoMemory>
-    ensures answer { IfOk result (λ o. answer_in o ≡ loop_answer program.now) }
+fn loop_output(alloc: Global, built: &BuiltLoop<'_>) -> Result<Output, NoMemory>
+    requires { IsBuilt (loop_seen built.now) }
+    ensures answer { IfOk result (λ o. answer_in o ≡ loop_answer (loop_seen built.now)) }
     ensures answered { IfOk result (λ o. IsAnswered o.status) }
 {
-    let sum = sum_items(alloc, program)?;
+    let sum = sum_items(alloc, built)?;
     let line = format!(in alloc; "{sum}\n")?;
     one_line(alloc, Status::Done, line)
 }

@@ -6,11 +6,14 @@
 #![tactic(auto)]
 
 mod answer;
+mod form;
+mod laws;
 mod output;
 mod run;
 mod status;
 mod top;
 mod words;
 
+pub use laws::{built_loops_are_done, one_answer, some_answer};
 pub use status::Status;
 pub use top::floop_words;

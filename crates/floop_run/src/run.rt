@@ -1,25 +1,29 @@
-ghost use Rattle.std.specs.Prelude.{◌≡◌, ◌<◌, IfOk, pos, ◌+ℤ◌};
+ghost use Rattle.std.specs.Prelude.{◌≡◌, ◌≤◌, ◌<◌, IfOk, pos, ◌+ℤ◌, map};
+ghost use Rattle.std.specs.FinMap.{get, insert};
 ghost use Rattle.loop_data.specs.declared.value.Value.TheVariants as value;
 ghost use Rattle.loop_values.specs.Operations.{as_int};
 ghost use Rattle.loop_values.specs.Results.{sum_of};
-ghost use Rattle.loop_syntax.specs.Programs.{range_count};
-ghost use Rattle.floop_run.specs.Items.{integers_from};
+ghost use Rattle.loop_values.specs.Values.{value_of};
+ghost use Rattle.floop_run.specs.BuiltForm.{IsBuilt, range_count};
+ghost use Rattle.floop_run.specs.BuiltViews.{loop_seen};
+ghost use Rattle.floop_run.specs.Inputs.{number_of, inputs_at};
 
+use crate::form::{BuiltLoop, range_count};
 use edge_io::NoMemory;
-use loop_syntax::Program;
-use loop_values::{Env, Value, eval};
+use loop_values::{Env, Expr, Value, eval};
 use std::alloc::Global;
 
-/// The exact sum over all items of the loop.
-pub fn sum_items(alloc: Global, program: &Program) -> Result<i128, NoMemory>
-    ensures { IfOk result (λ sum. sum ≡ sum_of (integers_from program.now.first (range_count program.now.first program.now.last))) }
+/// The exact sum of what the loop's items give.
+pub fn sum_items(alloc: Global, built: &BuiltLoop<'_>) -> Result<i128, NoMemory>
+    requires { IsBuilt (loop_seen built.now) }
+    ensures { IfOk result (λ sum. sum ≡ sum_of (inputs_at (loop_seen built.now) (range_count built.now.first built.now.last))) }
 {
+    let count = range_count(built.first, built.last) as u64;
     let mut env = Env::new(alloc);
     let mut sum: i128 = 0;
-    for step in 0..program.count() {
-        let item = item_at(program.first(), program.last(), step);
-        let input = input_of(alloc, program, &mut env, item)?;
-        sum += i128::from(integer(&input));
+    for step in 0..count {
+        let item = item_at(built.first, built.last, step);
+        sum += i128::from(input_of(alloc, built.summand, built.variable, &mut env, item)?);
     }
     Ok(sum)
 }
@@ -32,14 +36,21 @@ fn item_at(first: i64, _last: i64, before: u64) -> i64
     (i128::from(first) + i128::from(before)) as i64
 }
 
-/// What the body emits for one item.
-fn input_of(alloc: Global, program: &Program, env: &mut Env, item: i64) -> Result<Value, NoMemory>
-    ensures { IfOk result (λ v. v ≡ value.Int item) }
+/// What the summand gives for one item, the variable being bound to it.
+fn input_of(
+    alloc: Global,
+    summand: &Expr,
+    variable: &str,
+    env: &mut Env,
+    item: i64,
+) -> Result<i64, NoMemory>
+    ensures bound { IfOk result (λ n. env.new ≡ insert env.old variable.now (value.Int item)) }
+    ensures value { IfOk result (λ n. n ≡ number_of (value_of summand.now (get env.new))) }
 {
-    env.bind(alloc, program.variable(), Value::Int(item))?;
-    match eval(alloc, program.summand(), env) {
-        Ok(input) => Ok(input),
-        // A name that is bound has a value, so this is want of memory alone.
+    env.bind(alloc, variable, Value::Int(item))?;
+    match eval(alloc, summand, env) {
+        Ok(input) => Ok(integer(&input)),
+        // An expression of numbers has no fault, so this is want of memory alone.
         Err(_) => Err(NoMemory),
     }
 }

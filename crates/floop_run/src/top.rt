@@ -1,8 +1,8 @@
 ghost use Rattle.std.specs.Prelude.{◌≡◌, ◌≢◌, None, IfSome, IsSome};
 ghost use Rattle.edge_io.specs.Faults.{Rose};
 ghost use Rattle.edge_io.specs.Writing.{PutsPrefix};
-ghost use Rattle.floop_run.specs.Answers.{answer_of, words_answer, not_held};
-ghost use Rattle.floop_run.specs.TopCall.{texts, Gives, IsAnswered};
+ghost use Rattle.floop_run.specs.Answers.{IsAnswer, words_answer, not_held};
+ghost use Rattle.floop_run.specs.TopCall.{texts, Gives, GivesAnswer, PutsAnswerPrefix, IsAnswered};
 ghost use Rattle.floop_run.specs.Outputs.{answer_in};
 ghost use Rattle.floop_run.specs.Words.{loop_name};
 
@@ -17,7 +17,7 @@ use std::alloc::Global;
 /// The words are `run` and `loop=NAME`, NAME being the name of a loop file of at most 65,536 bytes. The loop is run and
 /// its result written, or the reason why it is refused; each line by one put, with its LF.
 ///
-/// The clauses tie the status and what was written to the answer, `answer_of` in specs/Answers:
+/// The clauses tie the status and what was written to the answer, `IsAnswer` in specs/Answers, of which there is just one:
 ///
 /// - `Done` where the loop ran; `LoopFault` where its leftmost stop is a fault;
 /// - `Refused` where the words, or the loop file, are refused;
@@ -33,7 +33,7 @@ pub fn floop_words<F: Files, K: Sink>(
     // Where the bytes are told and no count of faults rose, the call gives the answer, unless memory ran out.
     ensures headline { IfSome (F.held files.old) (λ held.
         (Rose (F.faults files.old) (F.faults files.new) → ⊥) → (Rose (K.faults out.old) (K.faults out.new) → ⊥) → result ≢ Status.NoMemory →
-        Gives (answer_of (texts words.now) held) result (K.written out.old) (K.written out.new)) }
+        GivesAnswer (texts words.now) held result (K.written out.old) (K.written out.new)) }
 
     // Words that name no loop file are refused, whatever files tell.
     ensures words_refused { loop_name (texts words.now) ≡ None →
@@ -42,22 +42,22 @@ pub fn floop_words<F: Files, K: Sink>(
 
     // Done, LoopFault and Refused come only as the answer, also where a count rose.
     ensures answered { IfSome (F.held files.old) (λ held.
-        IsAnswered result → Gives (answer_of (texts words.now) held) result (K.written out.old) (K.written out.new)) }
+        IsAnswered result → GivesAnswer (texts words.now) held result (K.written out.old) (K.written out.new)) }
 
     // ReadFault comes only after accepted words, and where no read failed exactly where the answer says so.
     ensures read_fault_words { result ≡ Status.ReadFault → IsSome (loop_name (texts words.now)) }
     ensures read_fault { IfSome (F.held files.old) (λ held.
         (Rose (F.faults files.old) (F.faults files.new) → ⊥) → result ≡ Status.ReadFault →
-        answer_of (texts words.now) held ≡ not_held) }
+        IsAnswer (texts words.now) held not_held) }
     ensures not_held { IfSome (F.held files.old) (λ held.
-        (Rose (F.faults files.old) (F.faults files.new) → ⊥) → (answer_of (texts words.now) held).status ≡ Status.ReadFault →
+        (Rose (F.faults files.old) (F.faults files.new) → ⊥) → IsAnswer (texts words.now) held not_held →
         result ≢ Status.NoMemory → result ≡ Status.ReadFault) }
     ensures read_fault_wrote { result ≡ Status.ReadFault → K.written out.new ≡ K.written out.old }
 
     // WriteFault comes only where the sink's count rose, after a prefix of the answer's text.
     ensures write_fault { result ≡ Status.WriteFault → Rose (K.faults out.old) (K.faults out.new) }
     ensures write_fault_wrote { IfSome (F.held files.old) (λ held. result ≡ Status.WriteFault →
-        PutsPrefix (K.written out.old) (K.written out.new) (answer_of (texts words.now) held).text) }
+        PutsAnswerPrefix (texts words.now) held (K.written out.old) (K.written out.new)) }
 
     // Want of memory may come at any place before the first put.
     ensures no_memory { result ≡ Status.NoMemory → K.written out.new ≡ K.written out.old }

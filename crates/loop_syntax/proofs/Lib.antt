@@ -1,3 +1,3 @@
-mod NameLemmas
-mod NumberLemmas
-mod ReservedLemmas
+mod LawLemmas
+mod ReadLemmas
+pub mod TextLaws

@@ -1,7 +1,2 @@
-pub mod Classes
-pub mod Forms
-pub mod Lines
-pub mod Numbers
 pub mod Programs
-pub mod Tokens
-pub mod Views
+pub mod Laws

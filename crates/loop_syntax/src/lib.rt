@@ -1,14 +1,19 @@
-//! Reads a loop file: the program that a text spells, by the definition `program_of` in specs/Programs.
+//! Reads and writes loop files: a text is read as exactly the program that it spells, or refused with its first refusal; a
+//! program is written as its canonical text, which spells it.
 //!
-//! One form is built: `for VARIABLE in FIRST:LAST`, `@reduce REDUCER += VARIABLE`, `end` and `print REDUCER`, each on a line of
-//! its own. Every other text is refused.
+//! What a text spells is defined in the crate `loop_grammar`: specs/LineForms, specs/Nesting and specs/Texts; what is written
+//! in `loop_layout`, specs/Canonical, and `loop_writer`, specs/Programs.
 #![tactic(auto)]
 
-mod classes;
-mod forms;
-mod lines;
-mod numbers;
+mod laws;
 mod program;
-mod tokens;
+mod read;
+#[cfg(test)]
+mod tests;
+mod write;
 
-pub use program::{Program, SyntaxRefusal, read_program};
+pub use laws::{never_both, never_neither, one_program, one_refusal};
+pub use loop_grammar::SyntaxRefusal;
+pub use program::Program;
+pub use read::read_program;
+pub use write::write_program;

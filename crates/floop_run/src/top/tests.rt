@@ -2,6 +2,7 @@ use super::floop_words;
 use crate::Status;
 use edge_io::{MemoryFiles, MemorySink};
 use std::alloc::Global;
+use std::process::Abort;
 use std::test::Fail;
 
 const LOOP: &[u8] = b"for x in 1:10\n@reduce s += x\nend\nprint s\n";
@@ -24,11 +25,27 @@ fn files_with(alloc: Global, text: &[u8]) -> Result<MemoryFiles, Fail> {
     Ok(files)
 }
 
-#[test]
-fn loop_files(rt: HostRuntime) -> Result<(), Fail> {
-    let alloc = rt.alloc();
+/// Runs the program on each text, which stands in the file that the words name.
+fn check_rows(
+    rt: &impl Abort,
+    alloc: Global,
+    rows: &[(&[u8], &[u8])],
+    wanted: Status,
+) -> Result<(), Fail> {
     let words = words_of(alloc, &["run", "loop=sum.floop"])?;
-    let rows: [(&[u8], &[u8]); 19] = [
+    for (text, line) in rows {
+        let mut files = files_with(alloc, text)?;
+        let mut out = MemorySink::new(alloc);
+        let status = floop_words(alloc, &words, &mut files, &mut out);
+        assert_eq!(rt; out.bytes(), *line);
+        assert_eq!(rt; status, wanted);
+    }
+    Ok(())
+}
+
+#[test]
+fn sums(rt: HostRuntime) -> Result<(), Fail> {
+    let rows: [(&[u8], &[u8]); 15] = [
         (LOOP, b"55\n"),
         (b"for x in 5:1\n@reduce s += x\nend\nprint s\n", b"0\n"),
         (b"for x in -3:-1\n@reduce s += x\nend\nprint s\n", b"-6\n"),
@@ -49,40 +66,113 @@ fn loop_files(rt: HostRuntime) -> Result<(), Fail> {
             b"for  x  in 1 : 10\n  @reduce  s  +=  x\n end \nprint  s\n",
             b"55\n",
         ),
-        (b"for x in 1:10\n@reduce\ts += x\nend\nprint s\n", NOT_BUILT),
-        (b"for x in 1:10\n@reduce s += x\nprint s\n", NOT_BUILT),
+        (b"for x in 1:10\n@reduce\ts += x\nend\nprint s\n", b"55\n"),
+        (
+            b"# ten\n\nfor x in (1):10 # to ten\n@reduce s = sum(x)\nend\nprint s\n",
+            b"55\n",
+        ),
+        (
+            b"for x in -2:2\n@reduce s += x * x - 2 * x\nend\nprint s\n",
+            b"10\n",
+        ),
+        (
+            b"for x in 9223372036854775807:9223372036854775807\n@reduce s += x + 1\nend\nprint s\n",
+            b"-9223372036854775808\n",
+        ),
+        (
+            b"for x in 1:3\n@reduce s += -3 * x\nend\nprint s\n",
+            b"-18\n",
+        ),
+        (
+            b"for x in 1:3\n@reduce s += (x - 1) * (x + 1)\nend\nprint s\n",
+            b"11\n",
+        ),
+        (b"for x in 1:4\n@reduce s += 7\nend\nprint s\n", b"28\n"),
+    ];
+    check_rows(&rt, rt.alloc(), &rows, Status::Done)
+}
+
+#[test]
+fn programs_of_another_form(rt: HostRuntime) -> Result<(), Fail> {
+    let rows: [(&[u8], &[u8]); 14] = [
         (
             b"for x in 1:10\n@reduce s += x\nend\nprint s\nprint s\n",
             NOT_BUILT,
         ),
-        (b"\xff", NOT_BUILT),
-        (b"", NOT_BUILT),
         (
             b"for x in 1:4294967297\n@reduce s += x\nend\nprint s\n",
-            NOT_BUILT,
-        ),
-        (
-            b"for x in 1:9223372036854775808\n@reduce s += x\nend\nprint s\n",
             NOT_BUILT,
         ),
         (b"for x in 1:10\n@reduce x += x\nend\nprint x\n", NOT_BUILT),
         (b"for x in 1:10\n@reduce s += y\nend\nprint s\n", NOT_BUILT),
         (b"for x in 1:10\n@reduce s += x\nend\nprint t\n", NOT_BUILT),
+        (b"for x in 1:1:3\n@reduce s += x\nend\nprint s\n", NOT_BUILT),
+        (b"for x in 1:3\n@reduce s += -x\nend\nprint s\n", NOT_BUILT),
         (
-            b"for in in 1:10\n@reduce s += in\nend\nprint s\n",
+            b"for x in 1:3\n@reduce s += x div 2\nend\nprint s\n",
+            NOT_BUILT,
+        ),
+        (
+            b"for x in 1:3\n@reduce s += place\nend\nprint s\n",
+            NOT_BUILT,
+        ),
+        (
+            b"for x in 1:3\n@reduce s = prod(x)\nend\nprint s\n",
+            NOT_BUILT,
+        ),
+        (
+            b"for x in 1:3\n@reduce s = sum(x) from 1\nend\nprint s\n",
+            NOT_BUILT,
+        ),
+        (
+            b"for x in 1:3, y in 1:2\n@reduce s += x\nend\nprint s\n",
+            NOT_BUILT,
+        ),
+        (
+            b"var k = 1\nfor x in 1:3\n@reduce s += x\nend\nprint s\n",
+            NOT_BUILT,
+        ),
+        (
+            b"for x in 1:3\nlet y = x\n@reduce s += x\nend\nprint s\n",
             NOT_BUILT,
         ),
     ];
-    for (text, wanted) in rows {
-        let mut files = files_with(alloc, text)?;
-        let mut out = MemorySink::new(alloc);
-        let status = floop_words(alloc, &words, &mut files, &mut out);
-        assert_eq!(rt; out.bytes(), wanted);
-        let is_refused = wanted == NOT_BUILT;
-        assert_eq!(rt; status == Status::Refused, is_refused);
-        assert_eq!(rt; status == Status::Done, !is_refused);
-    }
-    Ok(())
+    check_rows(&rt, rt.alloc(), &rows, Status::Refused)
+}
+
+#[test]
+fn texts_that_are_no_program(rt: HostRuntime) -> Result<(), Fail> {
+    let rows: [(&[u8], &[u8]); 10] = [
+        (b"\xff", b"byte 1: not UTF-8\n"),
+        (b"", b"line 1: bad nesting\n"),
+        (b"for x in 1:3", b"line 2: bad nesting\n"),
+        (
+            b"for x in 1:3\nfoo\nend",
+            b"line 2: not a line of the language\n",
+        ),
+        (b"var k = 9223372036854775808", b"line 1: number too wide\n"),
+        (
+            b"for x in 1:9223372036854775808\n@reduce s += x\nend\nprint s\n",
+            b"line 1: number too wide\n",
+        ),
+        (
+            b"for x in 1:10\n@reduce s += x\nprint s\n",
+            b"line 3: bad nesting\n",
+        ),
+        (
+            b"for in in 1:10\n@reduce s += in\nend\nprint s\n",
+            b"line 1: not a line of the language\n",
+        ),
+        (
+            b"for x in 1:10\n@reduce s += x\nend\nprint s\r",
+            b"line 4: not a line of the language\n",
+        ),
+        (
+            b"for x in 1:2\n@reduce g = group(1, group(2, group(3, group(4, group(5, count())))))\nend\n",
+            b"line 2: too deep\n",
+        ),
+    ];
+    check_rows(&rt, rt.alloc(), &rows, Status::Refused)
 }
 
 #[test]

@@ -1,19 +1,24 @@
 use Rattle.std.proofs.Common.{◌≡◌, ◌+◌, ◌+ℤ◌, pos, ap, ◌∙◌, add-one, arith}
+use Rattle.std.specs.FinMap.{get}
 use Rattle.std.proofs.lemmas.Int.{ints}
-use Rattle.loop_values.specs.Operations.{as_int}
 use Rattle.loop_values.specs.Results.{sum_of}
-use Rattle.floop_run.specs.Items.{integers_from}
-use Rattle.floop_run.proofs.SumLemmas.{sum_of-integers_from}
+use Rattle.loop_values.specs.Values.{value_of}
+use Rattle.floop_run.specs.BuiltViews.{loop_seen}
+use Rattle.floop_run.specs.Inputs.{number_of, input_at, inputs_at}
+use Rattle.floop_run.proofs.LoopLemmas.{value_at}
+use Rattle.floop_run.proofs.SumLemmas.{sum_of-one_more}
 use Rattle.floop_run.proofs.run.sum_items.Goals as goal
 
 pub loop-step-preserved : goal.loop-step-preserved
 loop-step-preserved c =
-    let first = c.args.program.now.first in
+    let loop = loop_seen c.args.built.now in
     let step = c.loop-step.step in
-    let read : c.integer.result ≡ c.item_at-item.result = c.integer.ensures ∙ ap as_int c.in_ok-input.ensures ∙ omega (arith, ints) in
-    let more : sum_of (integers_from first (step + 1)) ≡ sum_of (integers_from first step) +ℤ (first +ℤ pos step) = rw add-one (sum_of-integers_from first step) in
+    let got = c.in_ok-input_of.ensures.value ∙ ap number_of (ap (λ e. value_of loop.summand (get e)) c.in_ok-input_of.ensures.bound ∙ value_at loop c.requires c.loop-step.env _) in
+    let at = c.item_at-item.ensures in
+    let more : sum_of (inputs_at loop (step + 1)) ≡ sum_of (inputs_at loop step) +ℤ input_at loop (loop.first +ℤ pos step) = rw add-one (sum_of-one_more (input_at loop) loop.first step) in
+    let read : c.in_ok-input_of.field-0 ≡ input_at loop (loop.first +ℤ pos step) = got ∙ ap (input_at loop) (omega (arith, ints, at)) in
     record {
-      sum = omega (arith, ints, read, more, c.first.ensures, c.item_at-item.ensures, c.from-sum.ensures, c.loop-step.invariant.sum);
-      low = omega (arith, ints, read, c.from-sum.ensures);
-      high = omega (arith, ints, read, c.from-sum.ensures);
+      sum = omega (arith, ints, read, more, c.from.ensures, c.loop-step.invariant.sum);
+      low = omega (arith, ints, c.from.ensures, c.loop-step.invariant.low);
+      high = omega (arith, ints, c.from.ensures, c.loop-step.invariant.high);
     }

@@ -1,8 +1,15 @@
-use Rattle.floop_run.specs.Answers.{answer_of}
 use Rattle.floop_run.specs.TopCall.{texts}
-use Rattle.floop_run.proofs.TopLemmas.{Gives-not_held}
+use Rattle.floop_run.proofs.TopLemmas.{Gives-not_held, Gives-output, only_output}
 use Rattle.floop_run.proofs.top.floop_words.Goals as goal
 
 pub returns-in-Err-ReadFault-clause-headline : goal.returns-in-Err-ReadFault-clause-headline
 returns-in-Err-ReadFault-clause-headline g c =
-    Gives-not_held _ _ _ _ (g.F.Files.held c.args.files.now) (answer_of (texts c.args.words.now)) (g.K.Sink.written c.args.out.now) c.in-Err-ReadFault.ensures.read_fault (cc)
+    Gives-not_held _ _ _ _ (g.F.Files.held c.args.files.now) (texts c.args.words.now) (g.K.Sink.written c.args.out.now) c.in-Err-ReadFault.ensures.read_fault (cc)
+
+pub returns-in-Ok-clause-headline : goal.returns-in-Ok-clause-headline
+returns-in-Ok-clause-headline g c =
+    Gives-output (g.F.Files.held c.args.files.now) (texts c.args.words.now) c.in-Ok.output c.give.result _ _ _ _ c.in-Ok.ensures.output c.give.ensures.given c.give.ensures.cases c.give.ensures.write_fault
+
+pub returns-in-Ok-clause-not_held : goal.returns-in-Ok-clause-not_held
+returns-in-Ok-clause-not_held g c =
+    only_output (g.F.Files.held c.args.files.now) (texts c.args.words.now) c.in-Ok.output c.give.result _ c.in-Ok.ensures.output c.in-Ok.ensures.answered

@@ -1,0 +1,43 @@
+-- There is just one answer.
+use Rattle.std.proofs.Common.{◌≡◌, ◌⊎◌, inl, inr, ℕ, ◌<◌, ◌≤◌, List, Option, Some, None, length, refl, ap, arith}
+use Rattle.std.specs.FinMap.{get}
+use Rattle.std.proofs.lemmas.Bool.{cases_lt}
+use Rattle.edge_io.specs.Reading.{Held}
+use Rattle.loop_syntax.proofs.TextLaws.{one_program, one_refusal, never_both, never_neither}
+use Rattle.floop_run.specs.Words.{loop_name}
+use Rattle.floop_run.specs.Answers.{Answer, refused, not_held, words_answer, program_answer, syntax_text, loop_file_limit, IsTextAnswer, refused_text, read, IsFileAnswer, missing, too_long, within, IsNameAnswer, no_name, named, OneAnswer, SomeAnswer}
+
+one_text : (text : List ℕ) (a b : Answer) → IsTextAnswer text a → IsTextAnswer text b → a ≡ b
+one_text text a b (refused_text f) (refused_text g) = ap (λ r. refused (syntax_text r)) (one_refusal text _ _ f g)
+one_text text a b (refused_text f) (read s) = absurd (never_both text _ _ s f)
+one_text text a b (read s) (refused_text f) = absurd (never_both text _ _ s f)
+one_text text a b (read s) (read t) = ap program_answer (one_program text _ _ s t)
+
+one_file : (file : Option (List ℕ)) (a b : Answer) → IsFileAnswer file a → IsFileAnswer file b → a ≡ b
+one_file file a b missing missing = refl
+one_file file a b (too_long lt) (too_long gt) = refl
+one_file file a b (too_long lt) (within le t) = absurd (omega arith)
+one_file file a b (within le t) (too_long lt) = absurd (omega arith)
+one_file file a b (within le t) (within ge u) = one_text _ a b t u
+
+one_name : (name : Option (List ℕ)) (held : Held) (a b : Answer) → IsNameAnswer name held a → IsNameAnswer name held b → a ≡ b
+one_name name held a b no_name no_name = refl
+one_name name held a b (named f) (named g) = one_file _ a b f g
+
+pub one_answer : OneAnswer
+one_answer words held a b x y = one_name (loop_name words) held a b x y
+
+bytes_some : (bytes : List ℕ) → (loop_file_limit < length bytes) ⊎ (length bytes ≤ loop_file_limit) → ((a : Answer) → IsFileAnswer (Some bytes) a → ⊥) → ⊥
+bytes_some bytes (inl lt) k = k _ (too_long lt)
+bytes_some bytes (inr le) k = never_neither bytes (λ p s. k _ (within le (read s))) (λ r f. k _ (within le (refused_text f)))
+
+file_some : (file : Option (List ℕ)) → ((a : Answer) → IsFileAnswer file a → ⊥) → ⊥
+file_some None k = k not_held missing
+file_some (Some bytes) k = bytes_some bytes (cases_lt loop_file_limit (length bytes)) k
+
+name_some : (name : Option (List ℕ)) (held : Held) → ((a : Answer) → IsNameAnswer name held a → ⊥) → ⊥
+name_some None held k = k words_answer no_name
+name_some (Some name) held k = file_some (get held name) (λ a f. k a (named f))
+
+pub some_answer : SomeAnswer
+some_answer words held k = name_some (loop_name words) held k

@@ -1,0 +1,95 @@
+-- From what a read of the loop file gives to the answer.
+use Rattle.std.proofs.Common.{◌≡◌, ◌≢◌, ℕ, Bool, true, false, List, [], Option, Some, None, Result, Ok, Err, length, refl, sym, subst, ◌∙◌}
+use Rattle.std.specs.Prelude.{IfOk, IfSome, IsOk, codes, nat_le, if◌then◌else◌}
+use Rattle.std.specs.FinMap.{get}
+use Rattle.std.proofs.lemmas.Bool.{leb-true, leb-false}
+use Rattle.edge_io.specs.declared.files.ReadStop.{ReadStop}
+use Rattle.edge_io.specs.declared.files.ReadStop.TheVariants as stop
+use Rattle.edge_io.specs.Reading.{Held, read_answer, Reads}
+use Rattle.floop_run.specs.declared.answer.Output.{Output}
+use Rattle.floop_run.specs.declared.answer.OutputStop.{OutputStop}
+use Rattle.floop_run.specs.declared.answer.OutputStop.TheVariants as why
+use Rattle.floop_run.specs.Words.{loop_name}
+use Rattle.floop_run.specs.Outputs.{answer_in}
+use Rattle.floop_run.specs.Answers.{Answer, refused, not_held, words_answer, loop_file_limit, IsTextAnswer, IsFileAnswer, missing, too_long, within, IsNameAnswer, no_name, named, IsAnswer}
+
+-- what holds of each holds of what is there
+pub every : {A : Type 0} (o : Option A) (P : A → Type 0) → ((a : A) → P a) → IfSome o P
+every None P f = tt
+every (Some a) P f = f a
+
+pub every_of : {A : Type 0} (o : Option A) (P Q : A → Type 0) → ((a : A) → P a → Q a) → IfSome o P → IfSome o Q
+every_of None P Q f h = tt
+every_of (Some a) P Q f h = f a h
+
+-- the read's answer, told whether the bytes fit
+by_fit : {T : Type 0} (r : Result T ReadStop) (before now bytes : List ℕ) (b : Bool) → nat_le (length bytes) loop_file_limit ≡ b → Reads (read_answer (Some bytes) loop_file_limit) r before now →
+    Reads (if b then Ok bytes else Err stop.TooLong) r before now
+by_fit r before now bytes b e h = subst (λ c. Reads (if c then Ok bytes else Err stop.TooLong) r before now) e h
+
+pub ok_err : {T : Type 0} (r : Result T ReadStop) (t : T) (s : ReadStop) → r ≡ Ok t → r ≡ Err s → ⊥
+ok_err r t s e f = absurd (cc)
+
+is_ok_err : {T : Type 0} (r : Result T ReadStop) (s : ReadStop) → r ≡ Err s → IsOk r → ⊥
+is_ok_err (Ok t) s e h = absurd (cc)
+is_ok_err (Err u) s e h = absurd (cc)
+
+long_missing : {T : Type 0} (r : Result T ReadStop) → r ≡ Err stop.TooLong → r ≡ Err stop.NotHeld → ⊥
+long_missing r e f = absurd (cc)
+
+-- the bytes were read
+ok_fit : {T : Type 0} (r : Result T ReadStop) (t : T) (now bytes : List ℕ) (answer : Answer) (b : Bool) → nat_le (length bytes) loop_file_limit ≡ b → r ≡ Ok t →
+    Reads (if b then Ok bytes else Err stop.TooLong) r [] now → IsTextAnswer now answer → IsFileAnswer (Some bytes) answer
+ok_fit r t now bytes answer true is e h x = within (leb-true _ _ is) (subst (λ bs. IsTextAnswer bs answer) h.1 x)
+ok_fit r t now bytes answer false is e h x = absurd (ok_err r t stop.TooLong e h)
+
+pub ok_read : {T : Type 0} (r : Result T ReadStop) (t : T) (file : Option (List ℕ)) (now : List ℕ) (answer : Answer) → r ≡ Ok t → Reads (read_answer file loop_file_limit) r [] now →
+    IsTextAnswer now answer → IsFileAnswer file answer
+ok_read r t None now answer e h x = absurd (ok_err r t stop.NotHeld e h)
+ok_read r t (Some bytes) now answer e h x = ok_fit r t now bytes answer _ refl e (by_fit r [] now bytes _ refl h) x
+
+-- the file is too long
+long_fit : {T : Type 0} (r : Result T ReadStop) (before now bytes : List ℕ) (answer : Answer) (b : Bool) → nat_le (length bytes) loop_file_limit ≡ b → r ≡ Err stop.TooLong →
+    Reads (if b then Ok bytes else Err stop.TooLong) r before now → answer ≡ refused (codes "loop file: over 65536 bytes") → IsFileAnswer (Some bytes) answer
+long_fit r before now bytes answer true is e h x = absurd (is_ok_err r stop.TooLong e h.0)
+long_fit r before now bytes answer false is e h x = subst (IsFileAnswer (Some bytes)) (sym x) (too_long (leb-false _ _ is))
+
+pub long_read : {T : Type 0} (r : Result T ReadStop) (file : Option (List ℕ)) (before now : List ℕ) (answer : Answer) → r ≡ Err stop.TooLong → Reads (read_answer file loop_file_limit) r before now →
+    answer ≡ refused (codes "loop file: over 65536 bytes") → IsFileAnswer file answer
+long_read r None before now answer e h x = absurd (long_missing r e h)
+long_read r (Some bytes) before now answer e h x = long_fit r before now bytes answer _ refl e (by_fit r before now bytes _ refl h) x
+
+-- the file isn't held
+missing_fit : {T : Type 0} (r : Result T ReadStop) (before now bytes : List ℕ) (b : Bool) → r ≡ Err stop.NotHeld → Reads (if b then Ok bytes else Err stop.TooLong) r before now → ⊥
+missing_fit r before now bytes true e h = is_ok_err r stop.NotHeld e h.0
+missing_fit r before now bytes false e h = long_missing r h e
+
+pub missing_read : {T : Type 0} (r : Result T ReadStop) (file : Option (List ℕ)) (before now : List ℕ) → r ≡ Err stop.NotHeld → Reads (read_answer file loop_file_limit) r before now → file ≡ None
+missing_read r None before now e h = refl
+missing_read r (Some bytes) before now e h = absurd (missing_fit r before now bytes (nat_le (length bytes) loop_file_limit) e h)
+
+-- from the name's answer to the words'
+name_answer : (words : List (List ℕ)) (name : Option (List ℕ)) (held : Held) (answer : Answer) → name ≡ loop_name words → IsNameAnswer name held answer → IsAnswer words held answer
+name_answer words name held answer e a = subst (λ n. IsNameAnswer n held answer) e a
+
+pub no_name_answer : (words : List (List ℕ)) (held : Held) (answer : Answer) → None ≡ loop_name words → answer ≡ words_answer → IsAnswer words held answer
+no_name_answer words held answer e is = name_answer words None held answer e (subst (IsNameAnswer None held) (sym is) no_name)
+
+named_ok : (words : List (List ℕ)) (name : List ℕ) (held : Held) (r : Result Output OutputStop) → Some name ≡ loop_name words → IfOk r (λ o. IsFileAnswer (get held name) (answer_in o)) →
+    IfOk r (λ o. IsAnswer words held (answer_in o))
+named_ok words name held (Ok o) e h = name_answer words (Some name) held (answer_in o) e (named h)
+named_ok words name held (Err s) e h = h
+
+pub named_answers : (words : List (List ℕ)) (name : List ℕ) (held : Option Held) (r : Result Output OutputStop) → Some name ≡ loop_name words →
+    IfSome held (λ h. IfOk r (λ o. IsFileAnswer (get h name) (answer_in o))) → IfSome held (λ h. IfOk r (λ o. IsAnswer words h (answer_in o)))
+named_answers words name held r e h = every_of held _ _ (λ f. named_ok words name f r e) h
+
+pub named_missing : (words : List (List ℕ)) (name : List ℕ) (held : Option Held) (A B : Type 0) → Some name ≡ loop_name words →
+    IfSome held (λ h. A → B → get h name ≡ None) → IfSome held (λ h. A → B → IsAnswer words h not_held)
+named_missing words name held A B e h = every_of held _ _ (λ f missed a b. name_answer words (Some name) f not_held e (named (subst (λ o. IsFileAnswer o not_held) (sym (missed a b)) missing))) h
+
+pub long_not_failed : {T : Type 0} (r : Result T ReadStop) → r ≡ Err stop.TooLong → r ≢ Err stop.Failed
+long_not_failed r e f = absurd (cc)
+
+pub long_not_memory : {T : Type 0} (r : Result T ReadStop) → r ≡ Err stop.TooLong → r ≢ Err stop.NoMemory
+long_not_memory r e f = absurd (cc)
