@@ -5,7 +5,7 @@ ghost use Rattle.csv.specs.Records.{AllText, fields_of};
 ghost use Rattle.column_input.specs.Records.{StartsNotUtf8, records_of};
 
 use csv::{ErrorKind, Reader, ReaderBuilder, StringRecord};
-use edge_io::NoMemory;
+use no_memory::NoMemory;
 use std::alloc::Global;
 use std::marker::Model;
 

@@ -3,7 +3,7 @@
 ghost use Rattle.std.specs.Prelude.{◌≡◌};
 ghost use Rattle.column_input.specs.declared.refusal.TableRefusal.TheVariants as refused;
 
-use edge_io::NoMemory;
+use no_memory::NoMemory;
 use std::alloc::AllocError;
 
 /// Why bytes are no table. Records are counted from 1, the header being 1.

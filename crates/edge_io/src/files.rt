@@ -2,7 +2,7 @@ ghost use Rattle.std.specs.Prelude.{◌≡◌, ◌≢◌, ◌≤◌, ◌++◌, �
 ghost use Rattle.edge_io.specs.Faults.{Rose};
 ghost use Rattle.std.specs.FinMap.{get};
 
-use crate::memory::NoMemory;
+use no_memory::NoMemory;
 use std::alloc::{AllocError, Global};
 
 /// Why a read by name gave no bytes, with the number of each cause.

@@ -4,8 +4,8 @@ ghost use Rattle.edge_io.specs.Writing.{Puts, PutsPrefix};
 ghost use Rattle.edge_io.specs.Faults.{counted};
 
 use crate::files::{Files, ReadStop};
-use crate::memory::NoMemory;
 use crate::sink::{Sink, SinkFailed};
+use no_memory::NoMemory;
 use std::alloc::Global;
 use std::fs::File;
 use std::io::{ErrorKind, Print, Read};

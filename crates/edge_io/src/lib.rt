@@ -9,7 +9,6 @@
 mod calls;
 mod files;
 mod host;
-mod memory;
 mod memory_files;
 mod memory_sink;
 mod names;
@@ -17,7 +16,7 @@ mod sink;
 
 pub use files::{Files, ReadStop};
 pub use host::{HostFiles, HostSink};
-pub use memory::NoMemory;
 pub use memory_files::MemoryFiles;
 pub use memory_sink::MemorySink;
+pub use no_memory::NoMemory;
 pub use sink::{Sink, SinkFailed};

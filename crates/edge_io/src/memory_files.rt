@@ -6,8 +6,8 @@ ghost use Rattle.std.specs.FinSet as set;
 
 use crate::calls::CallSet;
 use crate::files::{Files, ReadStop};
-use crate::memory::NoMemory;
 use crate::names::Names;
+use no_memory::NoMemory;
 use std::alloc::Global;
 use std::marker::Model;
 

@@ -2,8 +2,8 @@ ghost use Rattle.std.specs.Prelude.{◌≡◌, ◌+◌, ◌≤◌, ◌++◌, ◌
 ghost use Rattle.std.specs.FinMap.{empty, insert};
 
 use crate::calls::CallMap;
-use crate::memory::NoMemory;
 use crate::sink::{Sink, SinkFailed};
+use no_memory::NoMemory;
 use std::alloc::Global;
 use std::marker::Model;
 

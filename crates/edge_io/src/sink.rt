@@ -1,7 +1,7 @@
 ghost use Rattle.std.specs.Prelude.{◌≡◌, ◌+◌, ◌≤◌, ◌++◌, ℕ, List, length, take, OnOk, OnErr, IfSome, Option, Some, None};
 ghost use Rattle.edge_io.specs.Faults.{Rose};
 
-use crate::memory::NoMemory;
+use no_memory::NoMemory;
 use std::alloc::Global;
 
 /// A put failed: the count of faults rose, and a prefix of the piece was appended.

@@ -4,7 +4,7 @@ ghost use Rattle.std.specs.Prelude.{◌≡◌, ◌≤◌, ◌<◌, ◌+◌, ◌^
 ghost use Rattle.fold_examples.specs.Sums.{SumUntilStands};
 
 use crate::{Sum, SumUntil};
-use edge_io::NoMemory;
+use no_memory::NoMemory;
 use fold_seq::{Job, Reduced, combine, fold_seq};
 use splittable::{Shape, Splittable};
 use std::alloc::Global;

@@ -5,7 +5,7 @@ ghost use Rattle.splittable.specs.Nodes.{IsNode};
 ghost use Rattle.fold_examples.specs.Sums.{IsSum, SumUntilStands};
 
 use crate::sums::sum_of_places;
-use edge_io::NoMemory;
+use no_memory::NoMemory;
 use fold_seq::{Job, Reduced};
 use splittable::{Part, Shape};
 use std::alloc::Global;

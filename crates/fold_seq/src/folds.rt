@@ -8,7 +8,7 @@ ghost use Rattle.fold_seq.specs.declared.answers.Reduced.TheVariants.{Going};
 
 use super::answers::Reduced;
 use super::jobs::Job;
-use edge_io::NoMemory;
+use no_memory::NoMemory;
 use std::alloc::Global;
 
 /// The answer of two neighbouring stretches together.

@@ -6,7 +6,7 @@ ghost use Rattle.fold_seq.specs.declared.answers.Reduced.{Reduced};
 ghost use Rattle.fold_seq.specs.Standing.{UnitStands, MergeStands, StopStands, StopLies, EndsAlike, MayMerge};
 
 use super::answers::Reduced;
-use edge_io::NoMemory;
+use no_memory::NoMemory;
 use splittable::{Part, Shape};
 use std::alloc::Global;
 

@@ -1,7 +1,7 @@
 ghost use Rattle.std.specs.Prelude.{◌≡◌, IfOk};
 
 use crate::{CopyIn, Expr, Many, TextValue, TowerExpr, Value};
-use edge_io::NoMemory;
+use no_memory::NoMemory;
 use std::alloc::Global;
 
 /// A statement of a loop's body. A `line` is the line of the text on which it stands, counted from 1.

@@ -1,5 +1,5 @@
 use crate::*;
-use edge_io::NoMemory;
+use no_memory::NoMemory;
 use std::alloc::Global;
 use std::collections::BTreeMap;
 use std::test::Fail;

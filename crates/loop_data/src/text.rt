@@ -3,7 +3,7 @@ ghost use Rattle.std.specs.Fmt.{signed_decimal};
 
 use crate::CopyIn;
 use arrayvec::ArrayString;
-use edge_io::NoMemory;
+use no_memory::NoMemory;
 use itoa::Buffer;
 use std::alloc::Global;
 use std::cmp::Ordering;

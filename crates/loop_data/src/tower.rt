@@ -1,7 +1,7 @@
 ghost use Rattle.std.specs.Prelude.{◌≡◌, IfOk};
 
 use crate::{Boxed, Expr};
-use edge_io::NoMemory;
+use no_memory::NoMemory;
 use std::alloc::Global;
 
 /// A kind of tower, which says what the inputs of a name are folded into.

@@ -1,7 +1,7 @@
 ghost use Rattle.std.specs.Prelude.{◌≡◌, IfOk};
 
 use crate::{Boxed, CopyIn, Many, TextValue};
-use edge_io::NoMemory;
+use no_memory::NoMemory;
 use std::alloc::Global;
 
 /// A value of the loop language.

@@ -38,20 +38,20 @@ pub(crate) fn negative_value(digits: &Piece<'_>) -> (i64, bool)
     }
 }
 
-pub(crate) fn text(alloc: Global, raw: &Piece<'_>) -> Result<Expr, edge_io::NoMemory>
+pub(crate) fn text(alloc: Global, raw: &Piece<'_>) -> Result<Expr, no_memory::NoMemory>
     ensures { IfOk result (λ x. x ≡ Expr.Lit (Value.Text (text_of raw.now))) }
 {
     let text = text_of(alloc, raw.as_str())?;
     Ok(Expr::Lit(Value::Text(TextValue::new(alloc, text.as_str())?)))
 }
 
-pub(crate) fn name(alloc: Global, piece: &Piece<'_>) -> Result<Expr, edge_io::NoMemory>
+pub(crate) fn name(alloc: Global, piece: &Piece<'_>) -> Result<Expr, no_memory::NoMemory>
     ensures { IfOk result (λ x. x ≡ Expr.Name piece.now) }
 {
     Ok(Expr::Name(TextValue::new(alloc, piece.as_str())?))
 }
 
-pub(crate) fn two(alloc: Global, op: Op, left: Expr, right: Expr) -> Result<Expr, edge_io::NoMemory>
+pub(crate) fn two(alloc: Global, op: Op, left: Expr, right: Expr) -> Result<Expr, no_memory::NoMemory>
     ensures { IfOk result (λ x. x ≡ Expr.Two op left right) }
 {
     let left = Boxed::new(alloc, left)?;
@@ -59,13 +59,13 @@ pub(crate) fn two(alloc: Global, op: Op, left: Expr, right: Expr) -> Result<Expr
     Ok(Expr::Two { op, left, right })
 }
 
-pub(crate) fn not(alloc: Global, inner: Expr) -> Result<Expr, edge_io::NoMemory>
+pub(crate) fn not(alloc: Global, inner: Expr) -> Result<Expr, no_memory::NoMemory>
     ensures { IfOk result (λ x. x ≡ Expr.Not inner) }
 {
     Ok(Expr::Not(Boxed::new(alloc, inner)?))
 }
 
-pub(crate) fn negate(alloc: Global, inner: Expr) -> Result<Expr, edge_io::NoMemory>
+pub(crate) fn negate(alloc: Global, inner: Expr) -> Result<Expr, no_memory::NoMemory>
     ensures { IfOk result (λ x. x ≡ Expr.Neg inner) }
 {
     Ok(Expr::Neg(Boxed::new(alloc, inner)?))
@@ -76,7 +76,7 @@ pub(crate) fn chosen(
     test: Expr,
     yes: Expr,
     no: Expr,
-) -> Result<Expr, edge_io::NoMemory>
+) -> Result<Expr, no_memory::NoMemory>
     ensures { IfOk result (λ x. x ≡ Expr.If test yes (Some no)) }
 {
     let test = Boxed::new(alloc, test)?;
@@ -85,7 +85,7 @@ pub(crate) fn chosen(
     Ok(Expr::If { test, yes, no })
 }
 
-pub(crate) fn chosen_some(alloc: Global, test: Expr, yes: Expr) -> Result<Expr, edge_io::NoMemory>
+pub(crate) fn chosen_some(alloc: Global, test: Expr, yes: Expr) -> Result<Expr, no_memory::NoMemory>
     ensures { IfOk result (λ x. x ≡ Expr.If test yes None) }
 {
     let test = Boxed::new(alloc, test)?;
@@ -113,7 +113,7 @@ fn called(
     alloc: Global,
     word: Option<Word>,
     part: Option<Expr>,
-) -> Result<Option<Expr>, edge_io::NoMemory>
+) -> Result<Option<Expr>, no_memory::NoMemory>
     ensures { IfOk result (λ o. o ≡ called word part) }
 {
     match (word, part) {
@@ -131,7 +131,7 @@ fn paired(
     op: Option<Op>,
     left: Option<Expr>,
     right: Option<Expr>,
-) -> Result<Option<Expr>, edge_io::NoMemory>
+) -> Result<Option<Expr>, no_memory::NoMemory>
     ensures { IfOk result (λ o. o ≡ paired op left right) }
 {
     let Some(op) = op else {
@@ -151,7 +151,7 @@ pub(crate) fn applied(
     alloc: Global,
     word: Keyword,
     mut found: Vec<Expr>,
-) -> Result<Option<Expr>, edge_io::NoMemory>
+) -> Result<Option<Expr>, no_memory::NoMemory>
     ensures { IfOk result (λ o. o ≡ applied word found.items) }
 {
     match found.len() {

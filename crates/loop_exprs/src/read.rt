@@ -26,12 +26,12 @@ pub enum ReadError {
     NotSpelled,
 }
 
-impl From<edge_io::NoMemory> for ReadError {
+impl From<no_memory::NoMemory> for ReadError {
     ghost use Rattle.loop_exprs.specs.declared.read.ReadError.TheVariants.{NoMemory};
 
     ghost from_gives = { λ _ e. e ≡ NoMemory };
 
-    fn from(_e: edge_io::NoMemory) -> ReadError {
+    fn from(_e: no_memory::NoMemory) -> ReadError {
         ReadError::NoMemory
     }
 }

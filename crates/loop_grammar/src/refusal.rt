@@ -1,6 +1,6 @@
 //! Why a text spells no program.
 
-use edge_io::NoMemory;
+use no_memory::NoMemory;
 use std::alloc::{AllocError, AllocFailed};
 
 /// Why a text spells no program: its first refusal. Bytes and lines are counted from 1.

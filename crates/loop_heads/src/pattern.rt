@@ -6,7 +6,7 @@ ghost use Rattle.loop_grammar.specs.LineForms.{SpellsPattern};
 ghost use Rattle.loop_heads.specs.Claims.{GaveEach, NotSeveral, IsSeveral, NamesBehind, NamesEnd, PatternAt, OnePattern};
 
 use crate::tokens::{eat, eat_name};
-use edge_io::NoMemory;
+use no_memory::NoMemory;
 use loop_data::{Many, TextValue};
 use loop_exprs::ReadError;
 use loop_tokens::{Piece, Sign, Token};

@@ -6,7 +6,7 @@ ghost use Rattle.loop_exprs.specs.Reading.{Gives};
 ghost use Rattle.loop_lines.specs.Claims.{Tells, ExprUpTo, WholeExpr, WholeLiteral, PatternUpTo};
 
 use crate::front::is_end;
-use edge_io::NoMemory;
+use no_memory::NoMemory;
 use loop_data::{Expr, Many, TextValue, Value};
 use loop_exprs::{ReadError, read_front};
 use loop_heads::{eat, read_literal, read_pattern};

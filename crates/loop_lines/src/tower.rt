@@ -62,14 +62,14 @@ fn count<'t, 'a>(tokens: &'t [Token<'a>]) -> Result<(TowerExpr, bool, &'t [Token
     }
 }
 
-fn group_of(alloc: Global, key: Expr, inner: TowerExpr) -> Result<TowerExpr, edge_io::NoMemory>
+fn group_of(alloc: Global, key: Expr, inner: TowerExpr) -> Result<TowerExpr, no_memory::NoMemory>
     ensures { IfOk result (λ x. x ≡ TowerExpr.Grouped key inner) }
 {
     let inner = Boxed::new(alloc, inner)?;
     Ok(TowerExpr::Grouped { key, inner })
 }
 
-fn both_of(alloc: Global, left: TowerExpr, right: TowerExpr) -> Result<TowerExpr, edge_io::NoMemory>
+fn both_of(alloc: Global, left: TowerExpr, right: TowerExpr) -> Result<TowerExpr, no_memory::NoMemory>
     ensures { IfOk result (λ x. x ≡ TowerExpr.Both left right) }
 {
     let left = Boxed::new(alloc, left)?;

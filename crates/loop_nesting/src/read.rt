@@ -9,7 +9,7 @@ ghost use Rattle.loop_nesting.specs.Claims.{RefusesNesting};
 
 use crate::open::{OpenIf, OpenLoop, Opened, Stage};
 use crate::stack::Stack;
-use edge_io::NoMemory;
+use no_memory::NoMemory;
 use loop_data::{Binding, Branch, Expr, HeadLine, Many, PrintLine, Statement, TextValue, Value};
 use loop_grammar::{Heads, Line, NumberedLine, ProgramTree, SyntaxRefusal};
 use std::alloc::Global;

@@ -1,6 +1,6 @@
 ghost use Rattle.std.specs.Prelude.{◌≡◌, ◌↔◌, [], ◌∷◌, length, IsTrue, OnOk, MatchOption};
 
-use edge_io::NoMemory;
+use no_memory::NoMemory;
 use std::alloc::Global;
 use std::marker::Model;
 

@@ -1,5 +1,5 @@
 use crate::nest;
-use edge_io::NoMemory;
+use no_memory::NoMemory;
 use loop_data::{Expr, Many, Statement, TextValue, TowerExpr, Value};
 use loop_grammar::{Heads, Line, NumberedLine, ProgramTree, SyntaxRefusal};
 use std::alloc::Global;

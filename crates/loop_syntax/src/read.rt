@@ -7,7 +7,7 @@ ghost use Rattle.loop_grammar.specs.Texts.{AllSay, FirstFault, SpellsProgram, Fi
 ghost use Rattle.loop_syntax.specs.Programs.{most_bytes, kept};
 
 use crate::program::Program;
-use edge_io::NoMemory;
+use no_memory::NoMemory;
 use loop_grammar::{Line, NumberedLine, SyntaxRefusal};
 use loop_lines::read_line;
 use loop_nesting::nest;

@@ -5,7 +5,7 @@ ghost use Rattle.loop_writer.specs.Programs.{canonical_text};
 ghost use Rattle.loop_syntax.specs.Programs.{IsSpelled};
 
 use crate::program::Program;
-use edge_io::NoMemory;
+use no_memory::NoMemory;
 use loop_writer::write_tree;
 use std::alloc::Global;
 

@@ -12,7 +12,7 @@ use crate::keyword::{AtWord, keyword_of};
 use crate::piece::Piece;
 use crate::sign::{Sign, long_sign, short_sign};
 use crate::token::{LineTokens, Token};
-use edge_io::NoMemory;
+use no_memory::NoMemory;
 use std::alloc::Global;
 
 /// How many bytes at the front go on with a name.

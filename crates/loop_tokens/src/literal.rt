@@ -4,7 +4,7 @@ ghost use Rattle.std.specs.Prelude.{◌≡◌, ◌≤◌, ◌^◌, ℕ, IfOk, So
 ghost use Rattle.loop_tokens.specs.Literals.{number_of, text_of, unescaped};
 
 use crate::bytes::escape;
-use edge_io::NoMemory;
+use no_memory::NoMemory;
 use std::alloc::Global;
 
 /// The number that digits spell, None where it is over 9223372036854775808, the largest that any literal takes.

@@ -5,7 +5,7 @@ ghost use Rattle.std.specs.Cmp.Lexicographic.{slice_cmp};
 ghost use Rattle.std.specs.FinMap.{find};
 ghost use Rattle.loop_values.specs.Entries.{with_entry};
 
-use edge_io::NoMemory;
+use no_memory::NoMemory;
 use loop_data::TextValue;
 use std::alloc::Global;
 

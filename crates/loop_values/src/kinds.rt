@@ -3,7 +3,7 @@ ghost use Rattle.std.specs.FinMap as map;
 ghost use Rattle.loop_values.specs.Kinds.{kind_of, same_kind, is_int, is_bool, is_text, is_maybe, is_ordered, is_comparable, kind_if, literal_kind, two_kind, call_kind, maybe_of, tuple_kind};
 
 use crate::{TypeStop, Types};
-use edge_io::NoMemory;
+use no_memory::NoMemory;
 use loop_data::{Boxed, Expr, Many, Op, Value, ValueKind, Word};
 use std::alloc::Global;
 

@@ -4,7 +4,7 @@ ghost use Rattle.loop_values.specs.Operations.{as_int, as_bool, as_text, text_of
 
 use crate::EvalStop;
 use crate::spelling::spelled;
-use edge_io::NoMemory;
+use no_memory::NoMemory;
 use loop_data::{Op, TextValue, Value, Word};
 use std::alloc::Global;
 

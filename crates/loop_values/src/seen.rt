@@ -1,6 +1,6 @@
 ghost use Rattle.std.specs.Prelude.{◌≡◌, IfOk};
 
-use edge_io::NoMemory;
+use no_memory::NoMemory;
 use loop_data::Value;
 use std::alloc::Global;
 

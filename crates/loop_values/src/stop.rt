@@ -1,4 +1,4 @@
-use edge_io::NoMemory;
+use no_memory::NoMemory;
 
 /// Why an expression or a range has no value. The first five are the kinds of a loop's faults, by their numbers.
 #[derive(Clone, Copy, Debug, PartialEq, Eq)]

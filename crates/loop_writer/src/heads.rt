@@ -6,7 +6,7 @@ ghost use Rattle.loop_layout.specs.Canonical.{step_marks, range_marks, listed, a
 
 use crate::exprs::{write_comma, write_expr};
 use crate::marks::{write_keyword, write_name, write_sign, write_text};
-use edge_io::NoMemory;
+use no_memory::NoMemory;
 use loop_data::{Axis, Expr, Inner, RangeExpr, TextValue};
 use loop_tokens::{Keyword, Sign};
 

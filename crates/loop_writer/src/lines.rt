@@ -10,7 +10,7 @@ use crate::exprs::write_expr;
 use crate::heads::{write_heads, write_pattern};
 use crate::marks::{write_at_word, write_keyword, write_name, write_sign, write_value};
 use crate::towers::write_folded;
-use edge_io::NoMemory;
+use no_memory::NoMemory;
 use loop_data::{Expr, HeadLine, TextValue, TowerExpr, Value};
 use loop_tokens::{AtWord, Keyword, Sign};
 

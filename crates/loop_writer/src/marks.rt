@@ -6,7 +6,7 @@ ghost use Rattle.loop_tokens.specs.Literals.{escaped, escaped_byte};
 ghost use Rattle.loop_layout.specs.Layout.{marks_text};
 ghost use Rattle.loop_layout.specs.Canonical.{first, bool_word, int_marks, value_marks};
 
-use edge_io::NoMemory;
+use no_memory::NoMemory;
 use itoa::Buffer;
 use loop_data::Value;
 use loop_tokens::{AtWord, Keyword, Sign};

@@ -14,7 +14,7 @@ use crate::lines::{
 };
 use crate::marks::write_keyword;
 use crate::rows::{Rows, deeper};
-use edge_io::NoMemory;
+use no_memory::NoMemory;
 use loop_data::{
     Binding, Branch, Expr, HeadLine, PrintLine, Statement, TextValue, TowerExpr, Value,
 };

@@ -2,7 +2,7 @@
 
 ghost use Rattle.std.specs.Prelude.{◌≡◌, ◌+◌, ◌-◌, ◌*◌, [], ◌++◌, replicate, IfOk, OnOk};
 
-use edge_io::NoMemory;
+use no_memory::NoMemory;
 use std::alloc::Global;
 
 /// The lines that were written so far.

@@ -8,7 +8,7 @@ ghost use Rattle.loop_layout.specs.Canonical.{apart, expr_marks, kind_word, towe
 
 use crate::exprs::write_expr;
 use crate::marks::{write_keyword, write_sign, write_value};
-use edge_io::NoMemory;
+use no_memory::NoMemory;
 use loop_data::{Expr, Kind, TowerExpr, Value};
 use loop_tokens::{Keyword, Sign};
 

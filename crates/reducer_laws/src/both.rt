@@ -4,7 +4,7 @@ ghost use Rattle.std.specs.Prelude.{◌≡◌};
 ghost use Rattle.reducer_laws.specs.Ends.{BothStand};
 
 use crate::Reducer;
-use edge_io::NoMemory;
+use no_memory::NoMemory;
 use std::alloc::Global;
 
 /// Folds the left halves of the inputs by one reducer, and the right halves by another. A state is a pair of their states,

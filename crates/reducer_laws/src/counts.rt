@@ -3,7 +3,7 @@
 ghost use Rattle.std.specs.Prelude.{◌≡◌, length};
 
 use crate::Reducer;
-use edge_io::NoMemory;
+use no_memory::NoMemory;
 use std::alloc::Global;
 
 /// Counts inputs. A state is their number.

@@ -4,7 +4,7 @@ ghost use Rattle.std.specs.Prelude.{◌≡◌};
 ghost use Rattle.reducer_laws.specs.Ends.{first_in, last_in};
 
 use crate::Reducer;
-use edge_io::NoMemory;
+use no_memory::NoMemory;
 use std::alloc::Global;
 use std::marker::PhantomData;
 

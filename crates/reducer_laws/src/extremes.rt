@@ -5,7 +5,7 @@ ghost use Rattle.reducer_laws.specs.Extremes.{IsFirstExtreme};
 
 use crate::Reducer;
 use crate::orders::{Greater, GreaterAt, Preference, Smaller, SmallerAt};
-use edge_io::NoMemory;
+use no_memory::NoMemory;
 use std::alloc::Global;
 use std::marker::PhantomData;
 

@@ -3,7 +3,7 @@
 ghost use Rattle.std.specs.Prelude.{◌≡◌, ◌≤◌, ◌^◌, length, IfOk};
 
 use crate::{Both, Count, Grouped, Groups, Listed, Reducer, Sum};
-use edge_io::NoMemory;
+use no_memory::NoMemory;
 use loop_data::TextValue;
 use std::alloc::Global;
 use std::process::Abort;

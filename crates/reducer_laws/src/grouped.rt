@@ -7,7 +7,7 @@ ghost use Rattle.reducer_laws.specs.Groups.{KeysRise, GroupsStand, GroupsTogethe
 ghost use Rattle.reducer_laws.specs.Standing.{MayTake, MayMerge, TakesNext, TakesTogether};
 
 use crate::Reducer;
-use edge_io::NoMemory;
+use no_memory::NoMemory;
 use loop_data::TextValue;
 use std::alloc::Global;
 use std::collections::BTreeMap;

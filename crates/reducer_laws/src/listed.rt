@@ -3,7 +3,7 @@
 ghost use Rattle.std.specs.Prelude.{◌≡◌};
 
 use crate::Reducer;
-use edge_io::NoMemory;
+use no_memory::NoMemory;
 use loop_data::Many;
 use std::alloc::Global;
 use std::marker::PhantomData;

@@ -3,7 +3,7 @@
 ghost use Rattle.reducer_laws.specs.Numbers.{IsSum, IsProduct};
 
 use crate::Reducer;
-use edge_io::NoMemory;
+use no_memory::NoMemory;
 use std::alloc::Global;
 
 /// Sums 64-bit integers. A state is the exact sum: 2^62 inputs of 64 bits come to at most 2^125 either way.

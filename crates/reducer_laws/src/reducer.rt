@@ -3,7 +3,7 @@
 ghost use Rattle.std.specs.Prelude.{List, [], IfOk, IsOk, OnOk};
 ghost use Rattle.reducer_laws.specs.Standing.{MayTake, MayMerge, TakesNext, TakesTogether};
 
-use edge_io::NoMemory;
+use no_memory::NoMemory;
 use std::alloc::Global;
 
 /// What folds inputs into a state, in parts.

@@ -6,7 +6,7 @@ use crate::{
     AllOf, AnyOf, Both, Count, FirstOf, Greatest, GreatestAt, LastOf, Least, LeastAt, Prod,
     Reducer, Sum,
 };
-use edge_io::NoMemory;
+use no_memory::NoMemory;
 use std::alloc::Global;
 use std::fmt::Debug;
 use std::process::Abort;

@@ -3,7 +3,7 @@
 ghost use Rattle.reducer_laws.specs.Ends.{IsAny, IsAll};
 
 use crate::Reducer;
-use edge_io::NoMemory;
+use no_memory::NoMemory;
 use std::alloc::Global;
 
 /// Tells whether any input is true; of no inputs, none is.

@@ -1,7 +1,7 @@
 -- What a builder makes of parts that come from other builders: the tree, or the first part's refusal.
 -- Source: this project.
 use Rattle.std.specs.Prelude.{[], ◌∷◌, Some, None, Result, Ok, Err}
-use Rattle.edge_io.specs.declared.memory.NoMemory.{NoMemory}
+use Rattle.no_memory.specs.declared.NoMemory.{NoMemory}
 use Rattle.loop_data.specs.declared.expr.Op.{Op}
 use Rattle.loop_data.specs.declared.expr.Word.{Word}
 use Rattle.loop_data.specs.declared.expr.Expr.{Expr}

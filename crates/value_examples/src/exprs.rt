@@ -3,7 +3,7 @@
 ghost use Rattle.std.specs.Prelude.{◌≡◌, Ok, IfOk};
 ghost use Rattle.value_examples.specs.Made.{made_neg, made_not, made_two, made_call, made_chosen, made_some, made_pair};
 
-use edge_io::NoMemory;
+use no_memory::NoMemory;
 use loop_values::{Boxed, Expr, Many, Op, TextValue, Value, Word};
 use std::alloc::Global;
 

@@ -10,7 +10,7 @@ mod ranges;
 mod texts;
 
 use crate::*;
-use edge_io::NoMemory;
+use no_memory::NoMemory;
 use loop_values::{Env, EvalStop, Expr, Value, eval};
 use std::alloc::Global;
 

@@ -2,7 +2,7 @@
 
 use crate::tests::{gives_text, number_of};
 use crate::{int, name, two};
-use edge_io::NoMemory;
+use no_memory::NoMemory;
 use loop_values::{Env, Expr, Op, TextValue, Value};
 use std::alloc::Global;
 use std::test::Fail;

@@ -1,7 +1,7 @@
 //! Copies of each type, on the trees of whole programs.
 
 use crate::{call, chosen, chosen_some, int, name, negated, not, pair, text, truth, two};
-use edge_io::NoMemory;
+use no_memory::NoMemory;
 use loop_values::{
     Boxed, Branch, CopyIn, Env, EvalStop, Expr, Kind, Many, Op, RangeExpr, Statement, TextValue,
     TowerExpr, Value, ValueKind, Word, copy_block, eval,

@@ -2,7 +2,7 @@
 
 use crate::tests::{gives_nothing, number_of, truth_of};
 use crate::{call, chosen, chosen_some, int, negated, not, pair, text, truth, two};
-use edge_io::NoMemory;
+use no_memory::NoMemory;
 use loop_values::{Env, EvalStop, Expr, Op, Word};
 use std::alloc::Global;
 

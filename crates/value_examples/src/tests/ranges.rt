@@ -1,7 +1,7 @@
 //! Inner ranges: how many items, and which refusal.
 
 use crate::{call, int, name, text, two};
-use edge_io::NoMemory;
+use no_memory::NoMemory;
 use loop_values::{Env, EvalStop, Expr, InnerRange, Op, RangeExpr, Value, Word, eval_range};
 use std::alloc::Global;
 use std::test::Fail;

@@ -2,7 +2,7 @@
 
 use crate::tests::{gives_nothing, gives_text, number_of, truth_of};
 use crate::{call, chosen_some, int, name, text, truth, two};
-use edge_io::NoMemory;
+use no_memory::NoMemory;
 use loop_values::{Env, EvalStop, Expr, Op, TextValue, Value, Word};
 use std::alloc::{AllocError, Global};
 

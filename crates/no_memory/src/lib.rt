@@ -1,3 +1,9 @@
+//! Want of memory, the one error that every crate of floop shares.
+//!
+//! It stands in a crate of its own, below all others, so that what the edge of the program does can change without a
+//! change in them.
+#![tactic(auto)]
+
 use std::alloc::{AllocError, AllocFailed};
 
 /// Memory ran out: an allocation was refused. It stands for nothing else, and nothing else for it.
