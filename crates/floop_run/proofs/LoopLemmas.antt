@@ -8,12 +8,13 @@ use Rattle.std.proofs.lemmas.Slice.Eq.{bytes_eq-Decides}
 use Rattle.loop_data.specs.declared.value.Value.{Value}
 use Rattle.loop_data.specs.declared.value.Value.TheVariants.{Int}
 use Rattle.loop_data.specs.declared.tower.Kind.TheVariants as kind
-use Rattle.loop_values.specs.Operations.{Outcome, as_int}
+use Rattle.loop_values.specs.Operations.{Outcome}
+use Rattle.loop_data.specs.ValueParts.{as_int}
 use Rattle.loop_values.specs.Values.{value_of}
-use Rattle.loop_values.specs.Results.{sum_of}
-use Rattle.loop_values.specs.ResultTexts.{result_text}
+use Rattle.loop_results.specs.Results.{sum_of}
+use Rattle.loop_results.specs.ResultTexts.{result_text}
 use Rattle.loop_values.proofs.BindingLaws.{get-bound}
-use Rattle.loop_values.proofs.Layers.{result_text-Sum}
+use Rattle.loop_results.proofs.Layers.{result_text-Sum}
 use Rattle.floop_run.specs.BuiltForm.{Loop, IsBuilt, range_count}
 use Rattle.floop_run.specs.declared.status.Status.TheVariants as status
 use Rattle.floop_run.specs.Inputs.{number_of, bound_to, input_at, inputs_at}

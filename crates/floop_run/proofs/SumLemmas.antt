@@ -2,7 +2,7 @@
 use Rattle.std.proofs.Common.{◌≡◌, ℕ, zero, suc, pos, ℤ, ◌+ℤ◌, ap, arith}
 use Rattle.std.specs.Prelude.{map}
 use Rattle.std.proofs.lemmas.Int.{ints}
-use Rattle.loop_values.specs.Results.{sum_of}
+use Rattle.loop_results.specs.Results.{sum_of}
 use Rattle.floop_run.specs.Items.{integers_from}
 
 pub sum_of-one_more : (f : ℤ → ℤ) (first : ℤ) (count : ℕ) → sum_of (map f (integers_from first (suc count))) ≡ sum_of (map f (integers_from first count)) +ℤ f (first +ℤ pos count)

@@ -7,7 +7,7 @@ use Rattle.edge_io.specs.Reading.{Held}
 use Rattle.loop_data.specs.declared.tower.Kind.TheVariants as kind
 use Rattle.loop_values.specs.declared.stop.EvalStop.{EvalStop}
 use Rattle.loop_values.specs.declared.stop.EvalStop.TheVariants as stop
-use Rattle.loop_values.specs.ResultTexts.{result_text}
+use Rattle.loop_results.specs.ResultTexts.{result_text}
 use Rattle.loop_grammar.specs.declared.tree.ProgramTree.{ProgramTree}
 use Rattle.loop_grammar.specs.declared.refusal.SyntaxRefusal.{SyntaxRefusal}
 use Rattle.loop_grammar.specs.declared.refusal.SyntaxRefusal.TheVariants as refusal

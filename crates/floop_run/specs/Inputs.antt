@@ -4,7 +4,8 @@ use Rattle.std.specs.Prelude.{ℕ, List, map, Ok, Err, ℤ, pos}
 use Rattle.std.specs.FinMap.{empty, get, insert}
 use Rattle.loop_data.specs.declared.value.Value.TheVariants.{Int}
 use Rattle.loop_values.specs.Bindings.{Bindings}
-use Rattle.loop_values.specs.Operations.{Outcome, as_int}
+use Rattle.loop_values.specs.Operations.{Outcome}
+use Rattle.loop_data.specs.ValueParts.{as_int}
 use Rattle.loop_values.specs.Values.{value_of}
 use Rattle.floop_run.specs.BuiltForm.{Loop}
 use Rattle.floop_run.specs.Items.{integers_from}

@@ -1,8 +1,8 @@
 ghost use Rattle.std.specs.Prelude.{◌≡◌, ◌≤◌, ◌<◌, IfOk, pos, ◌+ℤ◌, map};
 ghost use Rattle.std.specs.FinMap.{get, insert};
 ghost use Rattle.loop_data.specs.declared.value.Value.TheVariants as value;
-ghost use Rattle.loop_values.specs.Operations.{as_int};
-ghost use Rattle.loop_values.specs.Results.{sum_of};
+ghost use Rattle.loop_data.specs.ValueParts.{as_int};
+ghost use Rattle.loop_results.specs.Results.{sum_of};
 ghost use Rattle.loop_values.specs.Values.{value_of};
 ghost use Rattle.floop_run.specs.BuiltForm.{IsBuilt, range_count};
 ghost use Rattle.floop_run.specs.BuiltViews.{loop_seen};

@@ -4,8 +4,8 @@ ghost use Rattle.std.specs.Prelude.{◌≡◌, ◌≤◌, ◌-◌, ◌+◌, ℕ,
 ghost use Rattle.splittable.specs.Nodes.{IsNode};
 ghost use Rattle.fold_examples.specs.Sums.{sum_of_places, IsSum, SumStands};
 
-use no_memory::NoMemory;
 use fold_seq::{Job, Reduced};
+use no_memory::NoMemory;
 use splittable::{Part, Shape};
 use std::alloc::Global;
 

@@ -4,8 +4,8 @@ ghost use Rattle.std.specs.Prelude.{◌≡◌, ◌≤◌, ◌<◌, ◌+◌, ◌^
 ghost use Rattle.fold_examples.specs.Sums.{SumUntilStands};
 
 use crate::{Sum, SumUntil};
-use no_memory::NoMemory;
 use fold_seq::{Job, Reduced, combine, fold_seq};
+use no_memory::NoMemory;
 use splittable::{Shape, Splittable};
 use std::alloc::Global;
 

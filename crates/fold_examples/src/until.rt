@@ -5,8 +5,8 @@ ghost use Rattle.splittable.specs.Nodes.{IsNode};
 ghost use Rattle.fold_examples.specs.Sums.{IsSum, SumUntilStands};
 
 use crate::sums::sum_of_places;
-use no_memory::NoMemory;
 use fold_seq::{Job, Reduced};
+use no_memory::NoMemory;
 use splittable::{Part, Shape};
 use std::alloc::Global;
 

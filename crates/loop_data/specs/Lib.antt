@@ -1,2 +1,4 @@
 pub mod Held
+pub mod ValueParts
+pub mod ValueTexts
 pub mod formers

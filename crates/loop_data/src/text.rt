@@ -3,8 +3,8 @@ ghost use Rattle.std.specs.Fmt.{signed_decimal};
 
 use crate::CopyIn;
 use arrayvec::ArrayString;
-use no_memory::NoMemory;
 use itoa::Buffer;
+use no_memory::NoMemory;
 use std::alloc::Global;
 use std::cmp::Ordering;
 use std::marker::Model;

@@ -51,7 +51,12 @@ pub(crate) fn name(alloc: Global, piece: &Piece<'_>) -> Result<Expr, no_memory::
     Ok(Expr::Name(TextValue::new(alloc, piece.as_str())?))
 }
 
-pub(crate) fn two(alloc: Global, op: Op, left: Expr, right: Expr) -> Result<Expr, no_memory::NoMemory>
+pub(crate) fn two(
+    alloc: Global,
+    op: Op,
+    left: Expr,
+    right: Expr,
+) -> Result<Expr, no_memory::NoMemory>
     ensures { IfOk result (λ x. x ≡ Expr.Two op left right) }
 {
     let left = Boxed::new(alloc, left)?;

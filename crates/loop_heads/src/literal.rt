@@ -8,10 +8,10 @@ ghost use Rattle.loop_heads.specs.Tokens.{truth_of};
 ghost use Rattle.loop_heads.specs.Claims.{GaveEach, LiteralAt, OneLiteral};
 
 use crate::tokens::{eat, eat_number, split};
-use no_memory::NoMemory;
 use loop_data::{TextValue, Value};
 use loop_exprs::ReadError;
 use loop_tokens::{Keyword, Piece, Sign, Token, number_of, text_of};
+use no_memory::NoMemory;
 use std::alloc::Global;
 
 /// A number without `-`, and whether it is too wide.

@@ -6,10 +6,10 @@ ghost use Rattle.loop_grammar.specs.LineForms.{SpellsPattern};
 ghost use Rattle.loop_heads.specs.Claims.{GaveEach, NotSeveral, IsSeveral, NamesBehind, NamesEnd, PatternAt, OnePattern};
 
 use crate::tokens::{eat, eat_name};
-use no_memory::NoMemory;
 use loop_data::{Many, TextValue};
 use loop_exprs::ReadError;
 use loop_tokens::{Piece, Sign, Token};
+use no_memory::NoMemory;
 use std::alloc::Global;
 
 /// The items, if there are two to four of them.

@@ -6,11 +6,11 @@ ghost use Rattle.loop_exprs.specs.Reading.{Gives};
 ghost use Rattle.loop_lines.specs.Claims.{Tells, ExprUpTo, WholeExpr, WholeLiteral, PatternUpTo};
 
 use crate::front::is_end;
-use no_memory::NoMemory;
 use loop_data::{Expr, Many, TextValue, Value};
 use loop_exprs::{ReadError, read_front};
 use loop_heads::{eat, read_literal, read_pattern};
 use loop_tokens::{Piece, Sign, Token};
+use no_memory::NoMemory;
 use std::alloc::Global;
 
 /// Reads the expression in front of the sign, which is no operation.

@@ -1,11 +1,11 @@
 //! What no clause says: lines and towers by hand from the language's rules, and which refusal comes first.
 
 use crate::{one_line, one_saying, one_tower, one_verdict, read_line, read_tower};
-use no_memory::NoMemory;
 use loop_data::{Expr, Kind, TextValue, TowerExpr, Value};
 use loop_exprs::ReadError;
 use loop_grammar::{Line, SyntaxRefusal};
 use loop_tokens::tokens;
+use no_memory::NoMemory;
 use std::alloc::Global;
 use std::test::Fail;
 

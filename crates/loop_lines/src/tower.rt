@@ -69,7 +69,11 @@ fn group_of(alloc: Global, key: Expr, inner: TowerExpr) -> Result<TowerExpr, no_
     Ok(TowerExpr::Grouped { key, inner })
 }
 
-fn both_of(alloc: Global, left: TowerExpr, right: TowerExpr) -> Result<TowerExpr, no_memory::NoMemory>
+fn both_of(
+    alloc: Global,
+    left: TowerExpr,
+    right: TowerExpr,
+) -> Result<TowerExpr, no_memory::NoMemory>
     ensures { IfOk result (λ x. x ≡ TowerExpr.Both left right) }
 {
     let left = Boxed::new(alloc, left)?;

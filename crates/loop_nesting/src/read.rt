@@ -9,9 +9,9 @@ ghost use Rattle.loop_nesting.specs.Claims.{RefusesNesting};
 
 use crate::open::{OpenIf, OpenLoop, Opened, Stage};
 use crate::stack::Stack;
-use no_memory::NoMemory;
 use loop_data::{Binding, Branch, Expr, HeadLine, Many, PrintLine, Statement, TextValue, Value};
 use loop_grammar::{Heads, Line, NumberedLine, ProgramTree, SyntaxRefusal};
+use no_memory::NoMemory;
 use std::alloc::Global;
 use std::collections::VecDeque;
 

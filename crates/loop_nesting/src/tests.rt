@@ -1,7 +1,7 @@
 use crate::nest;
-use no_memory::NoMemory;
 use loop_data::{Expr, Many, Statement, TextValue, TowerExpr, Value};
 use loop_grammar::{Heads, Line, NumberedLine, ProgramTree, SyntaxRefusal};
+use no_memory::NoMemory;
 use std::alloc::Global;
 use std::collections::VecDeque;
 use std::test::Fail;

@@ -7,11 +7,11 @@ ghost use Rattle.loop_grammar.specs.Texts.{AllSay, FirstFault, SpellsProgram, Fi
 ghost use Rattle.loop_syntax.specs.Programs.{most_bytes, kept};
 
 use crate::program::Program;
-use no_memory::NoMemory;
 use loop_grammar::{Line, NumberedLine, SyntaxRefusal};
 use loop_lines::read_line;
 use loop_nesting::nest;
 use loop_tokens::{tokens, utf8_text};
+use no_memory::NoMemory;
 use std::alloc::Global;
 use std::collections::VecDeque;
 

@@ -5,8 +5,8 @@ ghost use Rattle.loop_writer.specs.Programs.{canonical_text};
 ghost use Rattle.loop_syntax.specs.Programs.{IsSpelled};
 
 use crate::program::Program;
-use no_memory::NoMemory;
 use loop_writer::write_tree;
+use no_memory::NoMemory;
 use std::alloc::Global;
 
 /// The canonical text of a program, which spells the same program, line numbers included: each line stands on its own

@@ -1,23 +1,12 @@
--- The value of each form of expression, one layer at a time, and the result of each kind of tower.
-use Rattle.std.proofs.Common.{◌≡◌, ℕ, List, [], ◌∷◌, map, length, Ok, rules, ℤ, pos}
-use Rattle.std.specs.List.{list_any, list_all}
-use Rattle.std.specs.Fmt.{signed_decimal}
-use Rattle.std.specs.Int.{w64, int_wrap}
-use Rattle.loop_data.specs.declared.value.Value.{Value, the_lemmas as value_lemmas}
-use Rattle.loop_data.specs.declared.value.Value.TheVariants as value
+-- The value of each form of expression, one layer at a time.
+use Rattle.std.proofs.Common.{◌≡◌, ℕ, List, Ok, rules}
+use Rattle.loop_data.specs.declared.value.Value.{Value}
 use Rattle.loop_data.specs.declared.expr.Op.{Op}
 use Rattle.loop_data.specs.declared.expr.Expr.{Expr, the_lemmas}
 use Rattle.loop_data.specs.declared.expr.Expr.TheVariants as e
-use Rattle.loop_data.specs.declared.tower.Kind.{Kind, the_lemmas as kind_lemmas}
-use Rattle.loop_data.specs.declared.tower.Kind.TheVariants as kind
 use Rattle.loop_values.specs.Bindings.{Names, place_name}
-use Rattle.loop_values.specs.Operations.{as_int, as_bool, and_then}
+use Rattle.loop_values.specs.Operations.{and_then}
 use Rattle.loop_values.specs.Values.{value_of, bound, second}
-use Rattle.loop_values.specs.Extremes.{least_of, greatest_of, left_of, right_of}
-use Rattle.loop_values.specs.Groups.{keys_of}
-use Rattle.loop_values.specs.Results as result
-use Rattle.loop_values.specs.Results.{result_of, sum_of}
-use Rattle.loop_values.specs.ResultTexts.{result_text, value_text}
 
 module _ (env : Names) where
   pub value_of-Lit : (v : Value) → value_of (e.Lit v) env ≡ Ok v
@@ -31,65 +20,3 @@ module _ (env : Names) where
 
   pub value_of-Two : (o : Op) (a b : Expr) → value_of (e.Two o a b) env ≡ and_then (value_of a env) (λ x. second o x (value_of b env))
   value_of-Two o a b = search (rules, the_lemmas)
-
--- ---- the result of each kind of tower
-
-module _ (inputs : List Value) where
-  pub result_of-Sum : result_of kind.Sum inputs ≡ result.number (sum_of (map as_int inputs))
-  result_of-Sum = search (rules, kind_lemmas)
-
-  pub result_of-Prod : result_of kind.Prod inputs ≡ result.number (int_wrap w64 (result.product_of (map as_int inputs)))
-  result_of-Prod = search (rules, kind_lemmas)
-
-  pub result_of-Count : result_of kind.Count inputs ≡ result.number (pos (length inputs))
-  result_of-Count = search (rules, kind_lemmas)
-
-  pub result_of-Least : result_of kind.Least inputs ≡ result.found (least_of inputs)
-  result_of-Least = search (rules, kind_lemmas)
-
-  pub result_of-Greatest : result_of kind.Greatest inputs ≡ result.found (greatest_of inputs)
-  result_of-Greatest = search (rules, kind_lemmas)
-
-  pub result_of-LeastAt : result_of kind.LeastAt inputs ≡ result.at_least_place (least_of (map left_of inputs)) inputs
-  result_of-LeastAt = search (rules, kind_lemmas)
-
-  pub result_of-GreatestAt : result_of kind.GreatestAt inputs ≡ result.at_least_place (greatest_of (map left_of inputs)) inputs
-  result_of-GreatestAt = search (rules, kind_lemmas)
-
-  pub result_of-First : result_of kind.First inputs ≡ result.found (result.first_of inputs)
-  result_of-First = search (rules, kind_lemmas)
-
-  pub result_of-Last : result_of kind.Last inputs ≡ result.found (result.last_of inputs)
-  result_of-Last = search (rules, kind_lemmas)
-
-  pub result_of-Any : result_of kind.Any inputs ≡ result.truth (list_any as_bool inputs)
-  result_of-Any = search (rules, kind_lemmas)
-
-  pub result_of-All : result_of kind.All inputs ≡ result.truth (list_all as_bool inputs)
-  result_of-All = search (rules, kind_lemmas)
-
-  pub result_of-Listed : result_of kind.Listed inputs ≡ result.listed inputs
-  result_of-Listed = search (rules, kind_lemmas)
-
-  pub result_of-Grouped : (inner : Kind) → result_of (kind.Grouped inner) inputs ≡ result.grouped (result.results_under (result_of inner) (keys_of inputs) inputs)
-  result_of-Grouped inner = search (rules, kind_lemmas)
-
-  pub result_of-Both : (l r : Kind) → result_of (kind.Both l r) inputs ≡ result.both (result_of l (map left_of inputs)) (result_of r (map right_of inputs))
-  result_of-Both l r = search (rules, kind_lemmas)
-
-  pub result_text-Sum : result_text kind.Sum inputs ≡ signed_decimal (sum_of (map as_int inputs))
-  result_text-Sum = search (rules, kind_lemmas)
-
--- ---- the parts of an input that is a pair, and the texts of values
-
-pub left_of-pair : (x y : Value) → left_of (value.Tuple (x ∷ y ∷ [])) ≡ x
-left_of-pair x y = search (rules, value_lemmas)
-
-pub right_of-pair : (x y : Value) → right_of (value.Tuple (x ∷ y ∷ [])) ≡ y
-right_of-pair x y = search (rules, value_lemmas)
-
-pub value_text-Int : (n : ℤ) → value_text (value.Int n) ≡ signed_decimal n
-value_text-Int n = search (rules, value_lemmas)
-
-pub value_text-Text : (t : List ℕ) → value_text (value.Text t) ≡ t
-value_text-Text t = search (rules, value_lemmas)

@@ -7,4 +7,3 @@ pub mod NamesLemmas
 pub mod SameLemmas
 pub mod SoundLemmas
 pub mod SpellingLemmas
-pub mod WorkedResults

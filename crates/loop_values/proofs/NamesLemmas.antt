@@ -5,7 +5,8 @@ use Rattle.loop_data.specs.declared.value.Value.{Value}
 use Rattle.loop_data.specs.declared.expr.Expr.{Expr, fold-roll-Expr, ind-Expr, map-Expr}
 use Rattle.loop_data.specs.declared.expr.Expr.TheOpen.{Expr-F, Expr-F as e}
 use Rattle.loop_values.specs.Bindings.{Names}
-use Rattle.loop_values.specs.Operations.{Outcome, and_then, as_bool}
+use Rattle.loop_values.specs.Operations.{Outcome, and_then}
+use Rattle.loop_data.specs.ValueParts.{as_bool}
 use Rattle.loop_values.specs.Values.{Meaning, value_of, value_step, bound, second, other_of, part_values}
 use Rattle.loop_values.specs.NamesIn.{names_in, names_step, all_names, SameAt}
 

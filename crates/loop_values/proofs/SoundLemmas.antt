@@ -15,6 +15,7 @@ use Rattle.loop_data.specs.declared.value.Value.TheVariants.{Int, Bool as BoolV,
 use Rattle.loop_data.specs.declared.value.Value.{the_lemmas as value_lemmas}
 use Rattle.loop_data.specs.declared.value.ValueKind.{ValueKind, out-ValueKind, roll-ValueKind, the_lemmas as kind_lemmas}
 use Rattle.loop_data.specs.declared.value.ValueKind.TheVariants as kind
+use Rattle.loop_data.specs.ValueParts.{as_int, as_bool}
 use Rattle.loop_values.specs.Operations as ev
 use Rattle.loop_values.specs.Bindings.{Names, place_name}
 use Rattle.loop_values.specs.Operations.{Outcome}
@@ -116,9 +117,9 @@ two-fits : (o : Op) (x y z : ValueKind) (v w : Value) → kn.two_kind o x y ≡ 
 two-fits op.Add x y z v w e = is_int_value z _ _ e
 two-fits op.Sub x y z v w e = is_int_value z _ _ e
 two-fits op.Mul x y z v w e = is_int_value z _ _ e
-two-fits op.Div x y z v w e = divided-fits z (ev.as_int v) (ev.as_int w) _ e
-two-fits op.Rem x y z v w e = remainder-fits z (ev.as_int v) (ev.as_int w) _ e
-two-fits op.Mod x y z v w e = modulo-fits z (ev.as_int v) (ev.as_int w) _ e
+two-fits op.Div x y z v w e = divided-fits z (as_int v) (as_int w) _ e
+two-fits op.Rem x y z v w e = remainder-fits z (as_int v) (as_int w) _ e
+two-fits op.Mod x y z v w e = modulo-fits z (as_int v) (as_int w) _ e
 two-fits op.Min x y z v w e = is_int_value z _ _ e
 two-fits op.Max x y z v w e = is_int_value z _ _ e
 two-fits op.Join x y z v w e = joined_texts-fits z _ _ e
@@ -156,7 +157,7 @@ call-fits word.Text x z v e = is_text_value z _ _ e
 ok_kind : (x y : ValueKind) → ◌≡◌ {A = Kinded} (Ok x) (Ok y) → x ≡ y
 ok_kind x y e = cc
 
-decided-fits : (o : Op) (x y z : ValueKind) (v : Value) (b : Bool) → ev.decides o v ≡ b → kn.two_kind o x y ≡ Ok z → (r : Outcome) → IsFit z r → IsFit z (if b then ev.truth (ev.as_bool v) else r)
+decided-fits : (o : Op) (x y z : ValueKind) (v : Value) (b : Bool) → ev.decides o v ≡ b → kn.two_kind o x y ≡ Ok z → (r : Outcome) → IsFit z r → IsFit z (if b then ev.truth (as_bool v) else r)
 decided-fits o x y z v false d e r h = h
 decided-fits op.And x y z v true d e r h = is_bool_value z _ _ e
 decided-fits op.Or x y z v true d e r h = is_bool_value z _ _ e
@@ -290,7 +291,7 @@ layer-fit (e.If t s None) names env z g b h =
     let bb = front env (names_in t.0 ++ names_in s.0) [] b in
     let bt = front env (names_in t.0) (names_in s.0) bb in
     let bs = back env (names_in t.0) (names_in s.0) bb in
-    then-fits p.0 z _ _ (t.1 names env p.0 g bt p.1) (λ v f. if-fits z (ev.as_bool v) _ _ (yes-fit None r.0 z names (value_of s.0 env) r.2 (s.1 names env r.0 g bs r.1)) (other-fit None r.0 z names env g tt r.2))
+    then-fits p.0 z _ _ (t.1 names env p.0 g bt p.1) (λ v f. if-fits z (as_bool v) _ _ (yes-fit None r.0 z names (value_of s.0 env) r.2 (s.1 names env r.0 g bs r.1)) (other-fit None r.0 z names env g tt r.2))
 layer-fit (e.If t s (Some o)) names env z g b h =
     let p = then-ok _ _ z h in
     let q = bool_then _ _ z p.2 in
@@ -299,7 +300,7 @@ layer-fit (e.If t s (Some o)) names env z g b h =
     let bt = front env (names_in t.0) (names_in s.0) bb in
     let bs = back env (names_in t.0) (names_in s.0) bb in
     let bo = back env (names_in t.0 ++ names_in s.0) (names_in o.0) b in
-    then-fits p.0 z _ _ (t.1 names env p.0 g bt p.1) (λ v f. if-fits z (ev.as_bool v) _ _ (yes-fit (Some o) r.0 z names (value_of s.0 env) r.2 (s.1 names env r.0 g bs r.1)) (other-fit (Some o) r.0 z names env g bo r.2))
+    then-fits p.0 z _ _ (t.1 names env p.0 g bt p.1) (λ v f. if-fits z (as_bool v) _ _ (yes-fit (Some o) r.0 z names (value_of s.0 env) r.2 (s.1 names env r.0 g bs r.1)) (other-fit (Some o) r.0 z names env g bo r.2))
 layer-fit (e.Tuple ss) names env z g b h = parts-fit ss [] [] names env z g b refl h
 
 pub sound : (e : Expr) → IsSound e

@@ -13,7 +13,7 @@ use Rattle.loop_data.specs.declared.tower.Kind.TheOpen.{Kind-F, Kind-F as t}
 use Rattle.loop_data.specs.declared.tower.Kind.TheFolds.{fold-Kind}
 use Rattle.loop_values.specs.Bindings.{Names}
 use Rattle.loop_values.specs.Operations.{Outcome}
-use Rattle.loop_values.specs.Extremes.{parts_of, left_of, right_of}
+use Rattle.loop_data.specs.ValueParts.{parts_of, left_of, right_of}
 use Rattle.loop_values.specs.Kinds.{Kinds, is_tuple_length}
 
 -- ---- values and kinds

@@ -9,7 +9,8 @@ use Rattle.loop_values.specs.declared.ranges.InnerRange.{InnerRange}
 use Rattle.loop_values.specs.declared.stop.EvalStop.{EvalStop}
 use Rattle.loop_values.specs.declared.stop.EvalStop.TheVariants.{StepZero, TooManyInner}
 use Rattle.loop_values.specs.Bindings.{Names}
-use Rattle.loop_values.specs.Operations.{Outcome, as_int}
+use Rattle.loop_values.specs.Operations.{Outcome}
+use Rattle.loop_data.specs.ValueParts.{as_int}
 use Rattle.loop_values.specs.Values.{value_of}
 
 -- whether the end b lies on the wrong side of the start a for the step s

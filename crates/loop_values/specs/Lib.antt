@@ -1,14 +1,10 @@
 pub mod Bindings
 pub mod Entries
-pub mod Extremes
 pub mod Fits
-pub mod Groups
 pub mod InnerItems
 pub mod Kinds
 pub mod NamesIn
 pub mod Operations
-pub mod ResultTexts
-pub mod Results
 pub mod Seen
 pub mod Spelling
 pub mod Values

@@ -4,8 +4,8 @@ use Rattle.std.specs.Prelude.{ℕ, Bool, true, false, not, ◌||◌, if◌then�
 use Rattle.std.specs.Int.{w64, int_wrap, int_min, int_max}
 use Rattle.std.specs.Ordering.{is_lt, nat_cmp, int_eq}
 use Rattle.std.specs.Cmp.Lexicographic.{slice_cmp}
-use Rattle.std.specs.Str.{bytes_eq}
 use Rattle.std.specs.Fmt.{signed_decimal}
+use Rattle.loop_data.specs.ValueParts.{as_int, as_bool, as_text, is_equal, same_bool}
 use Rattle.loop_data.specs.declared.value.Value.{Value}
 use Rattle.loop_data.specs.declared.value.Value.TheVariants.{Int, Bool as Truth, Text, Nothing}
 use Rattle.loop_data.specs.declared.expr.Op.{Op}
@@ -25,20 +25,6 @@ abbrev pub and_then : Outcome → (Value → Outcome) → Outcome
 and_then (Ok v) f = f v
 and_then (Err s) f = Err s
 
--- ---- what a value counts as where another kind is needed, which no expression that has a kind asks
-
-abbrev pub as_int : Value → ℤ
-as_int (Int n) = n
-as_int _ = pos 0
-
-abbrev pub as_bool : Value → Bool
-as_bool (Truth b) = b
-as_bool _ = false
-
-abbrev pub as_text : Value → List ℕ
-as_text (Text t) = t
-as_text _ = []
-
 -- ---- numbers
 
 abbrev pub least_int : ℤ
@@ -56,10 +42,6 @@ divided a b =
 -- what is left of the division, with the sign of a; a fault over 0
 abbrev pub remainder : ℤ → ℤ → Outcome
 remainder a b = if int_eq b (pos 0) then Err DivideError else Ok (Int (int_rem a b))
-
-abbrev pub same_bool : Bool → Bool → Bool
-same_bool true b = b
-same_bool false b = not b
 
 -- r where it is 0 or has the sign of b, else r + b
 abbrev pub with_sign_of : ℤ → ℤ → ℤ
@@ -90,12 +72,6 @@ text_of (Text t) = t
 text_of _ = []
 
 -- ---- comparisons
-
-abbrev pub is_equal : Value → Value → Bool
-is_equal (Int a) (Int b) = int_eq a b
-is_equal (Truth a) (Truth b) = same_bool a b
-is_equal (Text a) (Text b) = bytes_eq a b
-is_equal _ _ = false
 
 -- texts by their bytes
 abbrev pub is_less : Value → Value → Bool

@@ -5,8 +5,8 @@ ghost use Rattle.std.specs.Cmp.Lexicographic.{slice_cmp};
 ghost use Rattle.std.specs.FinMap.{find};
 ghost use Rattle.loop_values.specs.Entries.{with_entry};
 
-use no_memory::NoMemory;
 use loop_data::TextValue;
+use no_memory::NoMemory;
 use std::alloc::Global;
 
 /// What stands under a name in a list of entries: there are a handful of names, so a list that is searched from its front is

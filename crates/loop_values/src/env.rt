@@ -3,8 +3,8 @@ ghost use Rattle.std.specs.Option.{option_copied};
 ghost use Rattle.std.specs.FinMap as map;
 
 use crate::entries::{entry_of, set_entry};
-use no_memory::NoMemory;
 use loop_data::{TextValue, Value};
+use no_memory::NoMemory;
 use std::alloc::Global;
 use std::marker::Model;
 

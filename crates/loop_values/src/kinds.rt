@@ -3,8 +3,8 @@ ghost use Rattle.std.specs.FinMap as map;
 ghost use Rattle.loop_values.specs.Kinds.{kind_of, same_kind, is_int, is_bool, is_text, is_maybe, is_ordered, is_comparable, kind_if, literal_kind, two_kind, call_kind, maybe_of, tuple_kind};
 
 use crate::{TypeStop, Types};
-use no_memory::NoMemory;
 use loop_data::{Boxed, Expr, Many, Op, Value, ValueKind, Word};
+use no_memory::NoMemory;
 use std::alloc::Global;
 
 /// The kind of an expression under the kinds of its names. `Differs` comes exactly where it has none: where a part isn't of

@@ -1,11 +1,12 @@
 ghost use Rattle.std.specs.Prelude.{◌≡◌, ◌≢◌, Err, IfOk, ◌<◌, unsigned_abs, neg_ℤ, pos};
 ghost use Rattle.std.specs.Int.{w64, int_wrap};
-ghost use Rattle.loop_values.specs.Operations.{as_int, as_bool, as_text, text_of, divided, remainder, modulo, with_sign_of, joined, is_equal, is_less, two_of, decides, call_of};
+ghost use Rattle.loop_data.specs.ValueParts.{as_int, as_bool, as_text, is_equal};
+ghost use Rattle.loop_values.specs.Operations.{text_of, divided, remainder, modulo, with_sign_of, joined, is_less, two_of, decides, call_of};
 
 use crate::EvalStop;
 use crate::spelling::spelled;
-use no_memory::NoMemory;
 use loop_data::{Op, TextValue, Value, Word};
+use no_memory::NoMemory;
 use std::alloc::Global;
 
 /// The most bytes that `&` may make.

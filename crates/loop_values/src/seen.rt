@@ -1,7 +1,7 @@
 ghost use Rattle.std.specs.Prelude.{◌≡◌, IfOk};
 
-use no_memory::NoMemory;
 use loop_data::Value;
+use no_memory::NoMemory;
 use std::alloc::Global;
 
 /// A value that is lent where it stands, in a literal or under a name, or one that an operation made.

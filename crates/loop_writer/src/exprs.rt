@@ -5,9 +5,9 @@ ghost use Rattle.loop_layout.specs.Layout.{marks_text, token_text};
 ghost use Rattle.loop_layout.specs.Canonical.{first, glued, comma, op_token, is_extreme, word_token, written_expr, expr_marks, in_parentheses, negated, parts_marks};
 
 use crate::marks::{write_keyword, write_name, write_sign, write_token, write_value};
-use no_memory::NoMemory;
 use loop_data::{Expr, Op, Value, Word};
 use loop_tokens::{Keyword, Sign};
+use no_memory::NoMemory;
 
 /// What stands between two sides, or is called with them.
 fn op_text(op: Op) -> &'static str

@@ -6,9 +6,9 @@ ghost use Rattle.loop_layout.specs.Canonical.{step_marks, range_marks, listed, a
 
 use crate::exprs::{write_comma, write_expr};
 use crate::marks::{write_keyword, write_name, write_sign, write_text};
-use no_memory::NoMemory;
 use loop_data::{Axis, Expr, Inner, RangeExpr, TextValue};
 use loop_tokens::{Keyword, Sign};
+use no_memory::NoMemory;
 
 fn write_step(out: &mut Vec<u8>, step: &Option<Expr>) -> Result<(), NoMemory>
     ensures { OnOk result (out.new.items ≡ out.old.items ++ marks_text (step_marks step.now)) }

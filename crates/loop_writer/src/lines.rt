@@ -10,9 +10,9 @@ use crate::exprs::write_expr;
 use crate::heads::{write_heads, write_pattern};
 use crate::marks::{write_at_word, write_keyword, write_name, write_sign, write_value};
 use crate::towers::write_folded;
-use no_memory::NoMemory;
 use loop_data::{Expr, HeadLine, TextValue, TowerExpr, Value};
 use loop_tokens::{AtWord, Keyword, Sign};
+use no_memory::NoMemory;
 
 pub(crate) fn write_var(out: &mut Vec<u8>, name: &TextValue, value: &Value) -> Result<(), NoMemory>
     ensures { OnOk result (out.new.items ≡ out.old.items ++ marks_text (line_marks (l.Var name.now value.now))) }

@@ -6,10 +6,10 @@ ghost use Rattle.loop_tokens.specs.Literals.{escaped, escaped_byte};
 ghost use Rattle.loop_layout.specs.Layout.{marks_text};
 ghost use Rattle.loop_layout.specs.Canonical.{first, bool_word, int_marks, value_marks};
 
-use no_memory::NoMemory;
 use itoa::Buffer;
 use loop_data::Value;
 use loop_tokens::{AtWord, Keyword, Sign};
+use no_memory::NoMemory;
 
 fn write_space(out: &mut Vec<u8>, apart: bool) -> Result<(), NoMemory>
     ensures { OnOk result (out.new.items ≡ out.old.items ++ (if apart then 32 ∷ [] else [])) }

@@ -14,12 +14,12 @@ use crate::lines::{
 };
 use crate::marks::write_keyword;
 use crate::rows::{Rows, deeper};
-use no_memory::NoMemory;
 use loop_data::{
     Binding, Branch, Expr, HeadLine, PrintLine, Statement, TextValue, TowerExpr, Value,
 };
 use loop_grammar::ProgramTree;
 use loop_tokens::Keyword;
+use no_memory::NoMemory;
 use std::alloc::Global;
 
 /// A line of one word.

@@ -8,9 +8,9 @@ ghost use Rattle.loop_layout.specs.Canonical.{apart, expr_marks, kind_word, towe
 
 use crate::exprs::write_expr;
 use crate::marks::{write_keyword, write_sign, write_value};
-use no_memory::NoMemory;
 use loop_data::{Expr, Kind, TowerExpr, Value};
 use loop_tokens::{Keyword, Sign};
+use no_memory::NoMemory;
 
 fn kind_word(kind: &Kind) -> Keyword
     ensures { result ≡ kind_word kind.now }

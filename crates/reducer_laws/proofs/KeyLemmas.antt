@@ -16,7 +16,7 @@ use Rattle.std.proofs.lemmas.Map.Text.{is_eq-slice_cmp}
 use Rattle.std.proofs.lemmas.Map.Entries.{lookup_from_place}
 use Rattle.std.proofs.lemmas.Map.Keys.{IsDistinct-from_sorted}
 use Rattle.std.proofs.lemmas.Option.{slice_get-get_or}
-use Rattle.loop_values.specs.Groups.{placed, with_key}
+use Rattle.loop_results.specs.Groups.{placed, with_key}
 use Rattle.reducer_laws.specs.Groups.{inputs_under, state_at, keys_in, StandsWhere, GroupsStand}
 use Rattle.reducer_laws.proofs.GroupLemmas.{found}
 

@@ -4,7 +4,7 @@ use Rattle.std.specs.Int.{int_wrap, w128}
 use Rattle.std.proofs.lemmas.Int.{ints, to_z-of_z, int_wrap-mul_left, int_wrap-mul_right}
 use Rattle.std.proofs.lemmas.List.Elements.{All-head, All-tail, All-push, All-append}
 use borrow.Author.Differences.{up, down, same_in, product_is}
-use Rattle.loop_values.specs.Results.{sum_of, product_of}
+use Rattle.loop_results.specs.Results.{sum_of, product_of}
 use Rattle.reducer_laws.specs.Numbers.{IsSum}
 
 pub sum_of-append : (xs ys : List ℤ) → sum_of (xs ++ ys) ≡ sum_of xs +ℤ sum_of ys

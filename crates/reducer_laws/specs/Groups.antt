@@ -6,7 +6,7 @@ use Rattle.std.specs.Cmp.Lexicographic.{slice_cmp}
 use Rattle.std.specs.Str.{bytes_eq}
 use Rattle.std.specs.List.Sorted.{IsStrictlySortedBy}
 use Rattle.std.specs.Map.{lookup, keys_of}
-use Rattle.loop_values.specs.Groups.{with_key}
+use Rattle.loop_results.specs.Groups.{with_key}
 use Rattle.reducer_laws.specs.Standing.{MayMerge, TakesTogether}
 
 -- the inputs of one key, in order; an input is the pair of its key and the inner input

@@ -2,7 +2,7 @@
 -- Source: this project; the exact sum and the exact product are those of a tower's result.
 use Rattle.std.specs.Prelude.{◌≡◌, List, All, ℤ, FitsSigned}
 use Rattle.std.specs.Int.{w64, int_wrap}
-use Rattle.loop_values.specs.Results.{sum_of, product_of}
+use Rattle.loop_results.specs.Results.{sum_of, product_of}
 
 -- the exact sum of inputs of 64 bits
 abbrev pub IsSum : ℤ → List ℤ → Type 0

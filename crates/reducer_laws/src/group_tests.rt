@@ -3,8 +3,8 @@
 ghost use Rattle.std.specs.Prelude.{◌≡◌, ◌≤◌, ◌^◌, length, IfOk};
 
 use crate::{Both, Count, Grouped, Groups, Listed, Reducer, Sum};
-use no_memory::NoMemory;
 use loop_data::TextValue;
+use no_memory::NoMemory;
 use std::alloc::Global;
 use std::process::Abort;
 use std::test::Fail;

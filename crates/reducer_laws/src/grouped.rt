@@ -7,8 +7,8 @@ ghost use Rattle.reducer_laws.specs.Groups.{KeysRise, GroupsStand, GroupsTogethe
 ghost use Rattle.reducer_laws.specs.Standing.{MayTake, MayMerge, TakesNext, TakesTogether};
 
 use crate::Reducer;
-use no_memory::NoMemory;
 use loop_data::TextValue;
+use no_memory::NoMemory;
 use std::alloc::Global;
 use std::collections::BTreeMap;
 use std::collections::btree_map::Iter;

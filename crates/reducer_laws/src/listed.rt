@@ -3,8 +3,8 @@
 ghost use Rattle.std.specs.Prelude.{◌≡◌};
 
 use crate::Reducer;
-use no_memory::NoMemory;
 use loop_data::Many;
+use no_memory::NoMemory;
 use std::alloc::Global;
 use std::marker::PhantomData;
 

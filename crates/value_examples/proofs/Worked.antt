@@ -4,10 +4,10 @@ use Rattle.std.specs.Prelude.{pos, if◌then◌else◌}
 use Rattle.loop_data.specs.declared.value.Value.{Value, the_lemmas as value_lemmas}
 use Rattle.loop_data.specs.declared.value.Value.TheVariants as value
 use Rattle.loop_data.specs.declared.tower.Kind.TheVariants as kind
-use Rattle.loop_values.specs.Results.{number, found, found_at, listed, grouped, both, group, no_more, result_of}
-use Rattle.loop_values.specs.ResultTexts.{value_text}
-use Rattle.loop_values.proofs.Layers as layer
-use Rattle.loop_values.proofs.Layers.{left_of-pair, right_of-pair, value_text-Int, value_text-Text}
+use Rattle.loop_results.specs.Results.{number, found, found_at, listed, grouped, both, group, no_more, result_of}
+use Rattle.loop_data.specs.ValueTexts.{value_text}
+use Rattle.loop_results.proofs.Layers as layer
+use Rattle.loop_results.proofs.Layers.{left_of-pair, right_of-pair, value_text-Int, value_text-Text}
 use Rattle.value_examples.specs.Inputs.{int, minus, text, pair}
 
 pub value_text-Bool : (b : Bool) → value_text (value.Bool b) ≡ (if b then codes "true" else codes "false")

@@ -3,8 +3,8 @@
 ghost use Rattle.std.specs.Prelude.{◌≡◌, Ok, IfOk};
 ghost use Rattle.value_examples.specs.Made.{made_neg, made_not, made_two, made_call, made_chosen, made_some, made_pair};
 
-use no_memory::NoMemory;
 use loop_values::{Boxed, Expr, Many, Op, TextValue, Value, Word};
+use no_memory::NoMemory;
 use std::alloc::Global;
 
 /// A literal number. It takes no memory.

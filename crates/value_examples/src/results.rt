@@ -3,7 +3,7 @@
 ghost use Rattle.std.specs.Prelude.{◌≡◌, [], ◌∷◌, codes, true, false};
 ghost use Rattle.loop_data.specs.declared.tower.Kind.TheVariants as kind;
 ghost use Rattle.loop_data.specs.declared.value.Value.TheVariants as value;
-ghost use Rattle.loop_values.specs.ResultTexts.{result_text};
+ghost use Rattle.loop_results.specs.ResultTexts.{result_text};
 ghost use Rattle.value_examples.specs.Inputs.{int, minus, truth, text, pair};
 
 /// No input: what a tower begins with, or `nothing`.

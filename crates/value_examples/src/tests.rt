@@ -10,8 +10,8 @@ mod ranges;
 mod texts;
 
 use crate::*;
-use no_memory::NoMemory;
 use loop_values::{Env, EvalStop, Expr, Value, eval};
+use no_memory::NoMemory;
 use std::alloc::Global;
 
 /// The number that a tree has as its value, or its fault; `None` where the value is no number.

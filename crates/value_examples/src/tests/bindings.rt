@@ -2,8 +2,8 @@
 
 use crate::tests::{gives_text, number_of};
 use crate::{int, name, two};
-use no_memory::NoMemory;
 use loop_values::{Env, Expr, Op, TextValue, Value};
+use no_memory::NoMemory;
 use std::alloc::Global;
 use std::test::Fail;
 

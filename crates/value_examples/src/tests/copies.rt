@@ -1,11 +1,11 @@
 //! Copies of each type, on the trees of whole programs.
 
 use crate::{call, chosen, chosen_some, int, name, negated, not, pair, text, truth, two};
-use no_memory::NoMemory;
 use loop_values::{
     Boxed, Branch, CopyIn, Env, EvalStop, Expr, Kind, Many, Op, RangeExpr, Statement, TextValue,
     TowerExpr, Value, ValueKind, Word, copy_block, eval,
 };
+use no_memory::NoMemory;
 use std::alloc::Global;
 
 /// Whether a copy equals what it was made of.

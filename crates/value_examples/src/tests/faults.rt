@@ -2,8 +2,8 @@
 
 use crate::tests::{gives_nothing, number_of, truth_of};
 use crate::{call, chosen, chosen_some, int, negated, not, pair, text, truth, two};
-use no_memory::NoMemory;
 use loop_values::{Env, EvalStop, Expr, Op, Word};
+use no_memory::NoMemory;
 use std::alloc::Global;
 
 /// `1 div 0`, whose fault is `DivideError`.

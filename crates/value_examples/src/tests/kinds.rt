@@ -2,10 +2,10 @@
 //! pair of an Int and a Text, `m` for Maybe of an Int.
 
 use crate::{call, chosen, chosen_some, int, name, negated, not, pair, text, truth, two};
-use no_memory::NoMemory;
 use loop_values::{
     Boxed, Expr, Many, Op, TypeStop, Types, Value, ValueKind, Word, is_same_kind, type_of,
 };
+use no_memory::NoMemory;
 use std::alloc::Global;
 use std::test::Fail;
 

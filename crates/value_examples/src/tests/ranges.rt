@@ -1,8 +1,8 @@
 //! Inner ranges: how many items, and which refusal.
 
 use crate::{call, int, name, text, two};
-use no_memory::NoMemory;
 use loop_values::{Env, EvalStop, Expr, InnerRange, Op, RangeExpr, Value, Word, eval_range};
+use no_memory::NoMemory;
 use std::alloc::Global;
 use std::test::Fail;
 

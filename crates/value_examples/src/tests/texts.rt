@@ -2,8 +2,8 @@
 
 use crate::tests::{gives_nothing, gives_text, number_of, truth_of};
 use crate::{call, chosen_some, int, name, text, truth, two};
-use no_memory::NoMemory;
 use loop_values::{Env, EvalStop, Expr, Op, TextValue, Value, Word};
+use no_memory::NoMemory;
 use std::alloc::{AllocError, Global};
 
 /// Two texts, the first smaller by its bytes.

@@ -4,7 +4,7 @@ use Rattle.std.specs.Fmt.{signed_decimal}
 use Rattle.std.specs.Int.{w128}
 use Rattle.std.proofs.lemmas.Int.{to_z-of_z}
 use Rattle.std.proofs.lemmas.Result.{IfOk-weaker}
-use Rattle.loop_values.specs.Results.{sum_of}
+use Rattle.loop_results.specs.Results.{sum_of}
 use Rattle.floop_run.specs.declared.status.Status.TheVariants as status
 use Rattle.floop_run.specs.Answers.{Answer, line}
 use Rattle.floop_run.specs.BuiltForm.{range_count}

@@ -1,7 +1,7 @@
 use Rattle.std.proofs.Common.{◌≡◌, ◌+◌, ◌+ℤ◌, pos, ap, ◌∙◌, add-one, arith}
 use Rattle.std.specs.FinMap.{get}
 use Rattle.std.proofs.lemmas.Int.{ints}
-use Rattle.loop_values.specs.Results.{sum_of}
+use Rattle.loop_results.specs.Results.{sum_of}
 use Rattle.loop_values.specs.Values.{value_of}
 use Rattle.floop_run.specs.BuiltViews.{loop_seen}
 use Rattle.floop_run.specs.Inputs.{number_of, input_at, inputs_at}

@@ -1,5 +1,5 @@
 use Rattle.std.proofs.Common.{◌≡◌, ◌*◌, pos, ◌≤ℤ◌, neg_ℤ}
-use Rattle.loop_values.specs.Results.{sum_of}
+use Rattle.loop_results.specs.Results.{sum_of}
 use Rattle.floop_run.specs.BuiltViews.{loop_seen}
 use Rattle.floop_run.specs.Inputs.{inputs_at}
 use Rattle.floop_run.proofs.run.sum_items.Given as goal

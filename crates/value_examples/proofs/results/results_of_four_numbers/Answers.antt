@@ -1,9 +1,9 @@
 use Rattle.std.proofs.Common.{refl, ap, ◌∙◌}
 use Rattle.std.specs.Fmt.{digits}
 use Rattle.std.specs.Int.{int_wrap}
-use Rattle.loop_values.specs.ResultTexts.{text_of_result}
-use Rattle.loop_values.proofs.Layers as layer
-use Rattle.loop_values.proofs.Layers.{value_text-Int, value_text-Text}
+use Rattle.loop_results.specs.ResultTexts.{text_of_result}
+use Rattle.loop_results.proofs.Layers as layer
+use Rattle.loop_results.proofs.Layers.{value_text-Int, value_text-Text}
 use Rattle.value_examples.proofs.Worked as worked
 use Rattle.value_examples.proofs.Worked.{value_text-Bool, value_text-pair}
 use Rattle.value_examples.proofs.results.results_of_four_numbers.Goals as goal

@@ -1,7 +1,7 @@
 use Rattle.std.proofs.Common.{w64, ap, ◌∙◌, ◌*ℤ◌, FitsSigned, subst, sym}
 use Rattle.std.specs.Int.{int_wrap}
 use Rattle.std.proofs.lemmas.Int.{wrapping_mul_is, SFits-int_wrap}
-use Rattle.loop_values.specs.Results.{product_of}
+use Rattle.loop_results.specs.Results.{product_of}
 use Rattle.reducer_laws.proofs.NumberLemmas.{wrapped-push}
 use Rattle.reducer_laws.proofs.numbers.ProdReducer.next.Goals as goal
 

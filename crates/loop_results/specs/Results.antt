@@ -7,9 +7,10 @@ use Rattle.loop_data.specs.declared.value.Value.{Value}
 use Rattle.loop_data.specs.declared.tower.Kind.{Kind}
 use Rattle.loop_data.specs.declared.tower.Kind.TheOpen.{Kind-F, Kind-F as k}
 use Rattle.loop_data.specs.declared.tower.Kind.TheFolds.{fold-Kind}
-use Rattle.loop_values.specs.Operations.{as_int, as_bool}
-use Rattle.loop_values.specs.Extremes.{least_of, greatest_of, least_number, places_of, left_of, right_of}
-use Rattle.loop_values.specs.Groups.{keys_of, inputs_under}
+use Rattle.loop_data.specs.ValueParts.{as_int, as_bool}
+use Rattle.loop_results.specs.Extremes.{least_of, greatest_of, least_number, places_of}
+use Rattle.loop_data.specs.ValueParts.{left_of, right_of}
+use Rattle.loop_results.specs.Groups.{keys_of, inputs_under}
 
 mutual
   -- what a tower's inputs come to

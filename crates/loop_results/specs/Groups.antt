@@ -7,8 +7,8 @@ use Rattle.std.specs.declared.cmp.Ordering.TheVariants.{Less, Equal, Greater}
 use Rattle.std.specs.Cmp.Lexicographic.{slice_cmp}
 use Rattle.std.specs.Str.{bytes_eq}
 use Rattle.loop_data.specs.declared.value.Value.{Value}
-use Rattle.loop_values.specs.Operations.{as_text}
-use Rattle.loop_values.specs.Extremes.{left_of, right_of}
+use Rattle.loop_data.specs.ValueParts.{as_text}
+use Rattle.loop_data.specs.ValueParts.{left_of, right_of}
 
 -- an input is the pair of its key and the inner input
 abbrev pub key_of : Value → List ℕ

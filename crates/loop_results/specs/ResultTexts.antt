@@ -1,29 +1,11 @@
--- The text of a value and of a tower's result, as bytes. Texts are written as they are, without quotes.
+-- The text of a tower's result, as bytes. Texts are written as they are, without quotes.
 -- Source: this project.
 use Rattle.std.specs.Prelude.{ℕ, if◌then◌else◌, List, [], ◌∷◌, ◌++◌, map, codes, Option, Some, None, ℤ}
 use Rattle.std.specs.Fmt.{signed_decimal}
 use Rattle.loop_data.specs.declared.value.Value.{Value}
-use Rattle.loop_data.specs.declared.value.Value.TheOpen.{Value-F, Value-F as v}
-use Rattle.loop_data.specs.declared.value.Value.TheFolds.{fold-Value}
+use Rattle.loop_data.specs.ValueTexts.{separated, value_text}
 use Rattle.loop_data.specs.declared.tower.Kind.{Kind}
-use Rattle.loop_values.specs.Results.{TowerResult, GroupResults, number, truth, found, found_at, listed, grouped, both, no_more, group, result_of}
-
--- a comma and a space between each two
-abbrev pub separated : List (List ℕ) → List ℕ
-separated [] = []
-separated (t ∷ []) = t
-separated (t ∷ u ∷ ts) = t ++ codes ", " ++ separated (u ∷ ts)
-
-abbrev pub value_text_step : Value-F (List ℕ) → List ℕ
-value_text_step (v.Int n) = signed_decimal n
-value_text_step (v.Bool b) = if b then codes "true" else codes "false"
-value_text_step (v.Text t) = t
-value_text_step v.Nothing = codes "nothing"
-value_text_step (v.Tuple ts) = codes "(" ++ separated ts ++ codes ")"
-
--- as `text` writes it, and a tuple as (A, B)
-abbrev pub value_text : Value → List ℕ
-value_text = fold-Value (List ℕ) value_text_step
+use Rattle.loop_results.specs.Results.{TowerResult, GroupResults, number, truth, found, found_at, listed, grouped, both, no_more, group, result_of}
 
 abbrev pub found_text : Option Value → List ℕ
 found_text (Some x) = value_text x

@@ -4,10 +4,9 @@ use Rattle.std.specs.Prelude.{Bool, true, false, if◌then◌else◌, List, [], 
 use Rattle.std.specs.Ordering.{is_lt, nat_cmp}
 use Rattle.std.specs.Int.{int_min}
 use Rattle.std.specs.Cmp.Lexicographic.{slice_cmp}
-use Rattle.loop_data.specs.declared.value.Value.{Value, out-Value}
+use Rattle.loop_data.specs.declared.value.Value.{Value}
 use Rattle.loop_data.specs.declared.value.Value.TheVariants.{Int, Text}
-use Rattle.loop_data.specs.declared.value.Value.TheOpen.{Value-F, Value-F as v}
-use Rattle.loop_values.specs.Operations.{as_int, is_equal}
+use Rattle.loop_data.specs.ValueParts.{as_int, is_equal, left_of, right_of}
 
 -- texts by their bytes, and each Int before each Text
 abbrev pub is_smaller : Value → Value → Bool
@@ -34,31 +33,6 @@ least_of (x ∷ xs) = Some (or_smaller x (least_of xs))
 abbrev pub greatest_of : List Value → Option Value
 greatest_of [] = None
 greatest_of (x ∷ xs) = Some (or_greater x (greatest_of xs))
-
--- ---- inputs that are pairs
-
-abbrev pub parts_at : Value-F Value → List Value
-parts_at (v.Tuple ps) = ps
-parts_at _ = []
-
--- the parts of a tuple, and none of any other value
-abbrev pub parts_of : Value → List Value
-parts_of x = parts_at (out-Value x)
-
-abbrev pub first_or_zero : List Value → Value
-first_or_zero [] = Int (pos 0)
-first_or_zero (x ∷ _) = x
-
-abbrev pub second_or_zero : List Value → Value
-second_or_zero [] = Int (pos 0)
-second_or_zero (_ ∷ xs) = first_or_zero xs
-
--- the two parts of a pair
-abbrev pub left_of : Value → Value
-left_of x = first_or_zero (parts_of x)
-
-abbrev pub right_of : Value → Value
-right_of x = second_or_zero (parts_of x)
 
 -- ---- the least place of an extreme
 

@@ -6,9 +6,9 @@ use Rattle.std.specs.Fmt.{digits}
 use Rattle.loop_data.specs.declared.value.Value.{Value}
 use Rattle.loop_data.specs.declared.value.Value.TheVariants as value
 use Rattle.loop_data.specs.declared.tower.Kind.TheVariants as kind
-use Rattle.loop_values.specs.Results.{number, truth, found, found_at, listed, grouped, group, no_more, result_of}
-use Rattle.loop_values.specs.ResultTexts.{text_of_result}
-use Rattle.loop_values.proofs.Layers.{result_of-Sum, result_of-Prod, result_of-GreatestAt, result_of-LeastAt, result_of-All, result_of-Any, result_of-Grouped, left_of-pair, right_of-pair}
+use Rattle.loop_results.specs.Results.{number, truth, found, found_at, listed, grouped, group, no_more, result_of}
+use Rattle.loop_results.specs.ResultTexts.{text_of_result}
+use Rattle.loop_results.proofs.Layers.{result_of-Sum, result_of-Prod, result_of-GreatestAt, result_of-LeastAt, result_of-All, result_of-Any, result_of-Grouped, left_of-pair, right_of-pair}
 
 abbrev int : ℕ → Value
 int n = value.Int (pos n)

@@ -1,0 +1,4 @@
+pub mod Extremes
+pub mod Groups
+pub mod ResultTexts
+pub mod Results
