@@ -87,6 +87,3 @@ fn give<K: Sink>(alloc: Global, out: &mut K, output: &Output) -> Status
         Err(WriteStop::NoMemory) => Status::NoMemory,
     }
 }
-
-#[cfg(test)]
-mod tests;

@@ -15,6 +15,3 @@ pub use heads::{one_heads, read_heads};
 pub use literal::{one_literal, read_literal};
 pub use pattern::{one_pattern, read_pattern};
 pub use tokens::{eat, eat_name, eat_word};
-
-#[cfg(test)]
-mod tests;

@@ -13,6 +13,3 @@ mod verdict;
 pub use forms::one_line;
 pub use tower::{one_tower, read_tower};
 pub use verdict::{one_saying, one_verdict, read_line};
-
-#[cfg(test)]
-mod tests;

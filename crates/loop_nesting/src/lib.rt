@@ -8,8 +8,6 @@ mod laws;
 mod open;
 mod read;
 mod stack;
-#[cfg(test)]
-mod tests;
 
 pub use laws::{never_both, never_neither, one_program, one_refusal};
 pub use read::nest;

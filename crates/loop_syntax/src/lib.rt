@@ -8,8 +8,6 @@
 mod laws;
 mod program;
 mod read;
-#[cfg(test)]
-mod tests;
 mod write;
 
 pub use laws::{never_both, never_neither, one_program, one_refusal};

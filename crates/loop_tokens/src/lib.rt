@@ -24,6 +24,3 @@ pub use piece::Piece;
 pub use sign::Sign;
 pub use text::{BadUtf8, utf8_text};
 pub use token::{LineTokens, Token};
-
-#[cfg(test)]
-mod tests;

@@ -11,8 +11,6 @@ mod lines;
 mod marks;
 mod program;
 mod rows;
-#[cfg(test)]
-mod tests;
 mod towers;
 
 pub use laws::written_is_spelled;

@@ -1,6 +1,6 @@
-use crate::nest;
 use loop_data::{Expr, Many, Statement, TextValue, TowerExpr, Value};
 use loop_grammar::{Heads, Line, NumberedLine, ProgramTree, SyntaxRefusal};
+use loop_nesting::nest;
 use no_memory::NoMemory;
 use std::alloc::Global;
 use std::collections::VecDeque;

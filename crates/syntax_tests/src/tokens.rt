@@ -1,6 +1,6 @@
 //! What no clause says: the tables of bytes, words, signs and limits, by hand from the language's rules.
 
-use crate::{
+use loop_tokens::{
     LineTokens, Token, escapes_read_back, is_too_deep, number_of, one_lexing, text_of, tokens,
     utf8_text, words_read_back,
 };

@@ -1,8 +1,8 @@
 //! What no clause says: lines as they are written, with what they mean by hand from the language's rules.
 
-use crate::{one_heads, one_literal, one_pattern, read_heads, read_literal, read_pattern};
 use loop_data::{Axis, Expr, Inner, Many, RangeExpr, TextValue, Value};
 use loop_exprs::ReadError;
+use loop_heads::{one_heads, one_literal, one_pattern, read_heads, read_literal, read_pattern};
 use loop_tokens::tokens;
 use no_memory::NoMemory;
 use std::alloc::Global;

@@ -1,9 +1,9 @@
 //! What no clause says: lines and towers by hand from the language's rules, and which refusal comes first.
 
-use crate::{one_line, one_saying, one_tower, one_verdict, read_line, read_tower};
 use loop_data::{Expr, Kind, TextValue, TowerExpr, Value};
 use loop_exprs::ReadError;
 use loop_grammar::{Line, SyntaxRefusal};
+use loop_lines::{one_line, one_saying, one_tower, one_verdict, read_line, read_tower};
 use loop_tokens::tokens;
 use no_memory::NoMemory;
 use std::alloc::Global;
@@ -41,6 +41,7 @@ fn refuses_the_first_fault(rt: HostRuntime) {
         ("let (a) = x", not),
         ("continue x", not),
         ("x = 1 !", not),
+        ("x = a < b < c", not),
         ("elif x", not),
         ("@reduce s = count(x)", not),
         ("@reduce s = g", not),

@@ -1,6 +1,5 @@
-use super::floop_words;
-use crate::Status;
 use edge_io::{MemoryFiles, MemorySink};
+use floop_run::{Status, floop_words};
 use std::alloc::Global;
 use std::process::Abort;
 use std::test::Fail;

@@ -1,9 +1,9 @@
-use crate::write_tree;
 use loop_data::{
     Axis, Binding, Boxed, Expr, HeadLine, Kind, Many, Op, PrintLine, RangeExpr, Statement,
     TextValue, TowerExpr, Value,
 };
 use loop_grammar::ProgramTree;
+use loop_writer::write_tree;
 use std::alloc::Global;
 use std::test::Fail;
 

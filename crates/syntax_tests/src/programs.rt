@@ -1,4 +1,4 @@
-use crate::{Program, SyntaxRefusal, read_program, write_program};
+use loop_syntax::{Program, SyntaxRefusal, read_program, write_program};
 use std::alloc::Global;
 use std::test::Fail;
 

@@ -1,0 +1,6 @@
+//! Tests of the program's top call, in a crate above it: what it writes and which status it gives, over files and a sink in
+//! memory, by rows from the language's rules.
+#![tactic(auto)]
+
+#[cfg(test)]
+mod sums;
