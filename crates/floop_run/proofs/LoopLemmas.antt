@@ -1,6 +1,6 @@
 -- The run of the built form: each item is emitted once, in order, and the run ends by itself.
 use Rattle.std.proofs.Common.{◌≡◌, ℕ, ◌+◌, Bool, true, false, List, [], ◌∷◌, ◌++◌, Result, Ok, refl, sym, ap, subst, ◌∙◌, map, rules}
-use Rattle.std.specs.Prelude.{ℤ, filter}
+use Rattle.std.specs.Prelude.{ℤ, pos, filter}
 use Rattle.std.specs.Str.{bytes_eq}
 use Rattle.std.specs.FinMap.{empty, get, insert}
 use Rattle.std.specs.Fmt.{signed_decimal}
@@ -15,10 +15,11 @@ use Rattle.loop_results.specs.Results.{sum_of}
 use Rattle.loop_results.specs.ResultTexts.{result_text}
 use Rattle.loop_values.proofs.BindingLaws.{get-bound}
 use Rattle.loop_results.proofs.Layers.{result_text-Sum}
-use Rattle.floop_run.specs.BuiltForm.{Loop, IsBuilt, range_count}
+use Rattle.number_ranges.specs.Ranges.{range_count, range_items}
+use Rattle.floop_run.specs.BuiltForm.{Loop, IsBuilt}
 use Rattle.floop_run.specs.declared.status.Status.TheVariants as status
 use Rattle.floop_run.specs.Inputs.{number_of, bound_to, input_at, inputs_at}
-use Rattle.floop_run.specs.Items.{integers_from, items_of}
+use Rattle.floop_run.specs.Items.{items_of}
 use Rattle.floop_run.specs.PlainLoop.{Store, Emitted, Step, Run, StepEnd, goes_on, ran, reduced, body_step, with_step, loop_run, start_store, inputs_of}
 use Rattle.floop_run.specs.Answers.{Answer, line, run_answer, loop_answer}
 use Rattle.floop_run.proofs.NumericLemmas.{numeric}
@@ -58,10 +59,10 @@ ints_are [] = refl
 ints_are (n ∷ ns) = ap (λ l. n ∷ l) (ints_are ns)
 
 -- the answer of the plain loop is the exact sum of what its items give
-pub loop_answer-is : (loop : Loop) → IsBuilt loop → loop_answer loop ≡ record { status = status.Done; text = line (signed_decimal (sum_of (inputs_at loop (range_count loop.first loop.last)))) }
+pub loop_answer-is : (loop : Loop) → IsBuilt loop → loop_answer loop ≡ record { status = status.Done; text = line (signed_decimal (sum_of (inputs_at loop (range_count loop.first (pos 1) loop.last)))) }
 unfolding loop_answer
 loop_answer-is loop built =
-    let items = integers_from loop.first (range_count loop.first loop.last) in
+    let items = range_items loop.first (pos 1) loop.last in
     let run = run_is loop built (start_store loop) items 1 in
     ap (λ r. run_answer loop r r.end) run
     ∙ ap (λ t. record { status = status.Done; text = line t })

@@ -1,6 +1,7 @@
 -- The form of program that runs: one range, one sum of an expression of numbers, one printed result.
 -- Source: this project.
-use Rattle.std.specs.Prelude.{◌≡◌, ◌≤◌, ℕ, ◌+◌, List, [], ◌∷◌, Bool, true, false, not, ◌&&◌, nat_le, Option, Some, None, if◌then◌else◌, ℤ, ◌-ℤ◌, int_lt, unsigned_abs}
+use Rattle.std.specs.Prelude.{◌≡◌, ◌≤◌, ℕ, ◌+◌, List, [], ◌∷◌, Bool, true, false, not, ◌&&◌, nat_le, Option, Some, None, if◌then◌else◌, ℤ, pos}
+use Rattle.number_ranges.specs.Ranges.{range_count}
 use Rattle.std.specs.Str.{bytes_eq}
 use Rattle.loop_data.specs.declared.value.Value.{Value}
 use Rattle.loop_data.specs.declared.value.Value.TheVariants as value
@@ -51,10 +52,6 @@ is_empty (x ∷ xs) = false
 abbrev pub only : {A : Type 0} → List A → Option A
 only (x ∷ []) = Some x
 only _ = None
-
--- how many items a range from the first to the last integer has, both included
-abbrev pub range_count : ℤ → ℤ → ℕ
-range_count first last = if int_lt last first then 0 else unsigned_abs (last -ℤ first) + 1
 
 -- the most items that a loop has
 abbrev pub item_limit : ℕ
@@ -142,7 +139,7 @@ is_numeric variable = fold-Expr Bool (numeric_step variable)
 -- the loop of these lines, where the reducer isn't the variable and is what is printed, the expression reads the variable alone, and the range isn't too long
 abbrev pub checked : List ℕ × (ℤ × ℤ) → ReduceLine → PrintLine → Option Loop
 checked head reduce print =
-    if not (bytes_eq reduce.name head.0) && (bytes_eq print.name reduce.name && (is_numeric head.0 reduce.summand && nat_le (range_count head.1.0 head.1.1) item_limit))
+    if not (bytes_eq reduce.name head.0) && (bytes_eq print.name reduce.name && (is_numeric head.0 reduce.summand && nat_le (range_count head.1.0 (pos 1) head.1.1) item_limit))
     then Some (record { variable = head.0; first = head.1.0; last = head.1.1; line = reduce.line; reducer = reduce.name; summand = reduce.summand }) else None
 
 -- the loop that a program is, if it is of the form that runs
@@ -153,4 +150,4 @@ loop_of p = if is_empty p.vars && is_empty p.scratch then
 -- what such a loop keeps
 pub record IsBuilt (loop : Loop) : Type 0 where
   pub numeric : is_numeric loop.variable loop.summand ≡ true
-  pub limit : range_count loop.first loop.last ≤ item_limit
+  pub limit : range_count loop.first (pos 1) loop.last ≤ item_limit

@@ -8,7 +8,7 @@ use Rattle.loop_values.specs.Operations.{Outcome}
 use Rattle.loop_data.specs.ValueParts.{as_int}
 use Rattle.loop_values.specs.Values.{value_of}
 use Rattle.floop_run.specs.BuiltForm.{Loop}
-use Rattle.floop_run.specs.Items.{integers_from}
+use Rattle.number_ranges.specs.Ranges.{items_from}
 
 abbrev pub number_of : Outcome → ℤ
 number_of (Ok v) = as_int v
@@ -24,4 +24,4 @@ input_at loop n = number_of (value_of loop.summand (get (bound_to loop n)))
 
 -- what its first so many items give
 abbrev pub inputs_at : Loop → ℕ → List ℤ
-inputs_at loop count = map (input_at loop) (integers_from loop.first count)
+inputs_at loop count = map (input_at loop) (items_from loop.first (pos 1) count)

@@ -2,13 +2,14 @@
 
 ghost use Rattle.std.specs.Prelude.{◌≡◌, ◌≤◌, Option, IfSome};
 ghost use Rattle.std.specs.Option.{option_map, option_copied};
-ghost use Rattle.floop_run.specs.BuiltForm.{IsBuilt, loop_of, range_count, item_limit, is_empty, is_none, int_of, only, literal_of, bounds_of, axis_bounds, head_of, is_sum, summand_of, reduce_of, is_ring, is_numeric, checked};
+ghost use Rattle.floop_run.specs.BuiltForm.{IsBuilt, loop_of, item_limit, is_empty, is_none, int_of, only, literal_of, bounds_of, axis_bounds, head_of, is_sum, summand_of, reduce_of, is_ring, is_numeric, checked};
 ghost use Rattle.floop_run.specs.BuiltViews.{loop_seen, reduce_seen};
 
 use loop_grammar::ProgramTree;
 use loop_values::{
     Axis, Expr, HeadLine, Kind, Many, Op, PrintLine, RangeExpr, Statement, TowerExpr, Value,
 };
+use number_ranges::range_count;
 
 /// The most items that a loop has.
 const ITEM_LIMIT: u64 = 4294967296;
@@ -161,16 +162,6 @@ fn is_numeric(variable: &str, expr: &Expr) -> bool
     }
 }
 
-/// How many items a range from the first to the last integer has, both included.
-pub fn range_count(first: i64, last: i64) -> u128
-    ensures { result ≡ range_count first last }
-{
-    if last < first {
-        return 0;
-    }
-    u128::from(last.abs_diff(first)) + 1
-}
-
 /// The loop of these lines, where the reducer isn't the variable and is what is printed, the expression reads the variable
 /// alone, and the range isn't too long.
 fn checked<'a>(
@@ -186,7 +177,7 @@ fn checked<'a>(
     if reduce.name != variable
         && print.name.as_str() == reduce.name
         && is_numeric(variable, reduce.summand)
-        && range_count(first, last) <= u128::from(ITEM_LIMIT)
+        && range_count(first, 1, last) <= u128::from(ITEM_LIMIT)
     {
         Some(BuiltLoop {
             variable,
