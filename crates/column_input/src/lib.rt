@@ -10,8 +10,6 @@ mod laws;
 mod records;
 mod refusal;
 mod table;
-#[cfg(test)]
-mod tests;
 
 pub use laws::{records_take_the_whole_text, tables_are_whole};
 pub use refusal::TableRefusal;

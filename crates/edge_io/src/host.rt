@@ -165,6 +165,3 @@ impl<R: Print + Drop> Sink for HostSink<R> {
         Ok(())
     }
 }
-
-#[cfg(test)]
-mod tests;

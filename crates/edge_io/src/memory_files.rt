@@ -138,6 +138,3 @@ fn append(held: Option<&[u8]>, limit: u64, into: &mut Vec<u8>) -> Result<(), Rea
     into.extend_from_slice(bytes)?;
     Ok(())
 }
-
-#[cfg(test)]
-mod tests;

@@ -144,6 +144,3 @@ fn first(piece: &[u8], keep: u64) -> &[u8]
     let keep = piece.len().min(keep as usize);
     &piece[..keep]
 }
-
-#[cfg(test)]
-mod tests;

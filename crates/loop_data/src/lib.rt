@@ -9,8 +9,6 @@ mod expr;
 mod head;
 mod many;
 mod statement;
-#[cfg(test)]
-mod tests;
 mod text;
 mod tower;
 mod value;

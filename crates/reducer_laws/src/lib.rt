@@ -9,16 +9,12 @@ mod counts;
 mod ends;
 mod extremes;
 pub mod group_laws;
-#[cfg(test)]
-mod group_tests;
 mod grouped;
 pub mod laws;
 mod listed;
 mod numbers;
 mod orders;
 mod reducer;
-#[cfg(test)]
-mod tests;
 mod truths;
 
 pub use both::Both;

@@ -10,8 +10,6 @@ pub mod laws;
 mod parts;
 mod ranges;
 mod shapes;
-#[cfg(test)]
-mod tests;
 
 pub use halving::Splittable;
 pub use parts::{Part, least_part};

@@ -3,10 +3,13 @@
 
 mod bindings;
 mod copies;
+mod data;
 mod faults;
+mod groups;
 mod kinds;
 mod numbers;
 mod ranges;
+mod reducers;
 mod texts;
 
 use crate::*;

@@ -2,9 +2,9 @@
 
 ghost use Rattle.std.specs.Prelude.{◌≡◌, ◌≤◌, ◌^◌, length, IfOk};
 
-use crate::{Both, Count, Grouped, Groups, Listed, Reducer, Sum};
 use loop_data::TextValue;
 use no_memory::NoMemory;
+use reducer_laws::{Both, Count, Grouped, Groups, Listed, Reducer, Sum};
 use std::alloc::Global;
 use std::process::Abort;
 use std::test::Fail;

@@ -1,4 +1,4 @@
-use Rattle.reducer_laws.proofs.group_tests.fold_all.Given as goal
+use Rattle.value_examples.proofs.tests.groups.fold_all.Given as goal
 
 abbrev pub invariant-loop-input : goal.invariant-loop-input
 invariant-loop-input g l = g.R.Reducer.stands l.reducer l.state l.yielded

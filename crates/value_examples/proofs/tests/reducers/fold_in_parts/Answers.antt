@@ -1,7 +1,7 @@
 use Rattle.std.proofs.Common.{ℕ, List, take, drop, Result, Ok, Err, IfOk, take-append-drop, subst, length, length-drop, ◌≤◌, ◌-◌, arith}
 use Rattle.std.proofs.lemmas.List.{take_all}
 use Rattle.reducer_laws.specs.Standing.{TakesTogether}
-use Rattle.reducer_laws.proofs.tests.fold_in_parts.Goals as goal
+use Rattle.value_examples.proofs.tests.reducers.fold_in_parts.Goals as goal
 
 -- what was merged of a list's two parts stands for the list
 whole : {S I E : Type 0} (stands : S → List I → Type 0) (result : Result S E) (xs : List I) (cut : ℕ) (left right : S) →

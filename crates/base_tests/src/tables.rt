@@ -1,6 +1,6 @@
 //! What no clause says: that ample memory is enough, and that the records are those that RFC 4180 and its readers mean.
 
-use crate::{Table, TableRefusal};
+use column_input::{Table, TableRefusal};
 use std::alloc::{AllocError, Global};
 use std::test::Fail;
 
@@ -164,22 +164,6 @@ fn takes_1024_columns(rt: HostRuntime) -> Result<(), Fail> {
     let refusal = TableRefusal::TooManyColumns { columns: 1025 };
     assert_eq!(rt;
         Table::read(rt.alloc(), over.as_slice()).err(),
-        Some(refusal)
-    );
-    Ok(())
-}
-
-#[test]
-fn takes_as_many_fields_as_the_limit(rt: HostRuntime) -> Result<(), Fail> {
-    let most = lines(rt.alloc(), 4, 256)?;
-    assert_eq!(rt;
-        Table::read_within(rt.alloc(), most.as_slice(), 1024).err(),
-        None
-    );
-    let over = lines(rt.alloc(), 5, 256)?;
-    let refusal = TableRefusal::TooManyFields { number: 5 };
-    assert_eq!(rt;
-        Table::read_within(rt.alloc(), over.as_slice(), 1024).err(),
         Some(refusal)
     );
     Ok(())

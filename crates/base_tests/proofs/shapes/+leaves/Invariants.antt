@@ -1,4 +1,4 @@
-use Rattle.splittable.proofs.tests.+leaves.Given as goal
+use Rattle.base_tests.proofs.shapes.+leaves.Given as goal
 
 abbrev pub decreases-leaves : goal.decreases-leaves
 decreases-leaves l = l.part.now.len

@@ -1,5 +1,5 @@
 use Rattle.std.proofs.Common.{take}
-use Rattle.reducer_laws.proofs.tests.fold_slice.Given as goal
+use Rattle.value_examples.proofs.tests.reducers.fold_slice.Given as goal
 
 abbrev pub invariant-loop-input : goal.invariant-loop-input
 invariant-loop-input g l = g.R.Reducer.stands l.reducer l.state (take l.input-index l.inputs)

@@ -1,8 +1,6 @@
 //! The worked values of ranges, shapes and parts.
 
-ghost use Rattle.std.specs.Prelude.{◌≡◌, ◌≤◌};
-
-use crate::{Part, Range, RangeRefusal, Shape, ShapeRefusal, Splittable, least_part};
+use splittable::{Part, Range, RangeRefusal, Shape, ShapeRefusal, Splittable, least_part};
 use std::alloc::{AllocError, Global};
 
 fn items(alloc: Global, range: &Range) -> Result<Vec<i64>, AllocError> {

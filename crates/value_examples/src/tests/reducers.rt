@@ -2,11 +2,11 @@
 
 ghost use Rattle.std.specs.Prelude.{◌≡◌, ◌≤◌, ◌^◌, length, IfOk, count_by, nat_le};
 
-use crate::{
+use no_memory::NoMemory;
+use reducer_laws::{
     AllOf, AnyOf, Both, Count, FirstOf, Greatest, GreatestAt, LastOf, Least, LeastAt, Prod,
     Reducer, Sum,
 };
-use no_memory::NoMemory;
 use std::alloc::Global;
 use std::fmt::Debug;
 use std::process::Abort;

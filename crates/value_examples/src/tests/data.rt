@@ -1,4 +1,6 @@
-use crate::*;
+//! The data of the loop language: copies, texts short and long, lists and boxes.
+
+use loop_data::{Boxed, Kind, Many, TextValue, Value, ValueKind};
 use no_memory::NoMemory;
 use std::alloc::Global;
 use std::collections::BTreeMap;
