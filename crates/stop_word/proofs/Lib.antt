@@ -1,0 +1,4 @@
+pub mod Gathered
+pub mod Least
+pub mod Keeps
+pub mod Reached

@@ -1,0 +1,6 @@
+//! Callers of the stop word, with one thread and with several, and their tests.
+//!
+//! They stand here and not in the crates that they call, so that a change of a test proves nothing else again.
+#![tactic(auto)]
+
+pub mod stop_words;
