@@ -1,8 +1,22 @@
 //! Files and sinks, in memory and of the system, each through its calls.
 
-use edge_io::{Files, HostFiles, HostSink, MemoryFiles, MemorySink, ReadStop, Sink, SinkFailed};
+use edge_io::{
+    Files, HostFiles, HostSink, MemoryFiles, MemorySink, NamedBytes, ReadStop, Sink, SinkFailed,
+};
 use std::test::Fail;
 use std::{env, fs, process};
+
+#[test]
+fn names_hold_their_last_bytes(rt: HostRuntime) -> Result<(), Fail> {
+    let mut held = NamedBytes::new(rt.alloc());
+    for (name, bytes) in [("a", b"1"), ("", b"2"), ("a", b"3")] {
+        held.insert(rt.alloc(), name, bytes)?;
+    }
+    assert_eq!(rt; held.get("a"), Some(b"3".as_slice()));
+    assert_eq!(rt; held.get(""), Some(b"2".as_slice()));
+    assert!(rt; held.get("A").is_none());
+    Ok(())
+}
 
 #[test]
 fn reads_what_is_held(rt: HostRuntime) -> Result<(), Fail> {

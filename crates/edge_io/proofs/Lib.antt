@@ -1,2 +1,3 @@
 mod GrowthLemmas
 mod KeyedLemmas
+mod TreeLemmas

@@ -1,11 +1,12 @@
 -- What contracts see of files and of a sink in memory, and what a read and a put make of it.
 -- Source: this project.
-use Rattle.std.specs.Prelude.{◌≡◌, ℕ, ◌+◌, List, ◌++◌, take, Option, Some, None, Bool, is_some, if◌then◌else◌, refl}
+use Rattle.std.specs.Prelude.{◌≡◌, ℕ, ◌+◌, List, [], ◌++◌, take, Option, Some, None, Result, Bool, is_some, if◌then◌else◌, refl}
 use Rattle.std.specs.Ordering.{nat_cmp}
 use Rattle.std.specs.Coded.{Coded, code_by, coded×, coded_ℕ, coded_list}
 use Rattle.std.specs.FinMap as map
 use Rattle.std.specs.FinSet as set
-use Rattle.edge_io.specs.Reading.{Held}
+use Rattle.edge_io.specs.declared.files.ReadStop.{ReadStop}
+use Rattle.edge_io.specs.Reading.{Held, read_answer}
 use Rattle.edge_io.specs.Faults.{counted}
 
 -- Files in memory: what is held, the numbers of the reads that are named to fail, how many reads were
@@ -23,6 +24,22 @@ files_code =
     (λ m. ((m.held, m.failing), (m.reads, m.faults)))
     (λ p. record { held = p.0.0; failing = p.0.1; reads = p.1.0; faults = p.1.1 })
     (λ _. refl)
+
+-- no files, and no read that is named to fail
+abbrev pub no_files : FilesModel
+no_files = record { held = map.empty; failing = set.empty; reads = 0; faults = 0 }
+
+-- the files with these bytes under the name, in place of what it held
+abbrev pub files_with : FilesModel → List ℕ → List ℕ → FilesModel
+files_with m name bytes = record m { held = map.insert m.held name bytes }
+
+-- the files with this read named to fail
+abbrev pub with_failing_read : FilesModel → ℕ → FilesModel
+with_failing_read m call = record m { failing = set.insert m.failing call }
+
+-- the answer of a read by what is held, where no read fails and memory is there
+abbrev pub held_answer : FilesModel → List ℕ → ℕ → Result (List ℕ) ReadStop
+held_answer m name limit = read_answer (map.get m.held name) limit
 
 -- whether the next read is one that is named to fail
 abbrev pub fails_next_read : FilesModel → Bool
@@ -49,9 +66,21 @@ sink_code =
     (λ p. record { bytes = p.0.0; room = p.0.1; failing = p.1.0; puts = p.1.1.0; faults = p.1.1.1 })
     (λ _. refl)
 
+-- nothing written, no room, and no put that is named to fail
+abbrev pub new_sink : SinkModel
+new_sink = record { bytes = []; room = 0; failing = map.empty; puts = 0; faults = 0 }
+
+-- the sink with this put named to fail, after it has kept so many bytes
+abbrev pub with_failing_put : SinkModel → ℕ → ℕ → SinkModel
+with_failing_put m call keep = record m { failing = map.insert m.failing call keep }
+
 -- how many bytes the next put keeps where it is named to fail
 abbrev pub kept_by_next_put : SinkModel → Option ℕ
 kept_by_next_put m = map.get m.failing (m.puts + 1)
+
+-- the sink with a piece after its bytes, but for its room
+abbrev pub with_piece : SinkModel → List ℕ → SinkModel
+with_piece m piece = record m { bytes = m.bytes ++ piece }
 
 -- what a put appends: the piece, or its first bytes where it keeps only so many
 abbrev pub appended : Option ℕ → List ℕ → List ℕ
@@ -66,6 +95,11 @@ after_put m piece =
       puts = counted m.puts;
       faults = if is_some (kept_by_next_put m) then counted m.faults else m.faults;
     }
+
+-- the counts of puts and faults after a put that keeps so many bytes, or that doesn't fail
+abbrev pub after_begun_put : SinkModel → Option ℕ → SinkModel
+after_begun_put m kept =
+    record m { puts = counted m.puts; faults = if is_some kept then counted m.faults else m.faults }
 
 -- the sinks differ at most in their room
 abbrev pub SameButRoom : SinkModel → SinkModel → Type 0

@@ -5,11 +5,18 @@ use Rattle.std.specs.Ordering.{nat_cmp}
 use Rattle.std.specs.Cmp.Lexicographic.{slice_cmp}
 use Rattle.std.specs.FinMap.{FinMap}
 use Rattle.edge_io.specs.declared.files.ReadStop.{ReadStop}
-use Rattle.edge_io.specs.declared.files.ReadStop.TheVariants.{TooLong, NotHeld}
+use Rattle.edge_io.specs.declared.files.ReadStop.TheVariants.{Failed, TooLong, NoMemory, NotHeld}
 
 -- what is held: bytes by name, both as lists of bytes
 abbrev pub Held : Type 0
 Held = FinMap (slice_cmp nat_cmp) (List ℕ)
+
+-- the number of each cause
+abbrev pub stop_number : ReadStop → ℕ
+stop_number Failed = 1
+stop_number TooLong = 2
+stop_number NoMemory = 3
+stop_number NotHeld = 4
 
 -- The answer of a read of at most `limit` bytes, where the bytes under the name are these or the
 -- name isn't held, no read fails and memory is there.

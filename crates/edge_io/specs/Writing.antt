@@ -10,3 +10,7 @@ Puts (Some before) now piece = now ≡ Some (before ++ piece)
 -- a prefix of the piece, of some length up to its own, so follows what was written before
 abbrev pub PutsPrefix : Option (List ℕ) → Option (List ℕ) → List ℕ → Type 0
 PutsPrefix before now piece = (kept : ℕ) × Puts before now (take kept piece)
+
+-- the room of a sink that is never full
+abbrev pub endless_room : ℕ
+endless_room = 18446744073709551615

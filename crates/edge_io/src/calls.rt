@@ -1,18 +1,23 @@
-ghost use Rattle.std.specs.Prelude.{◌≡◌, ◌+◌, nat_eq, OnOk, OnErr};
-ghost use Rattle.std.specs.List.{list_any};
-ghost use Rattle.std.specs.Ordering.{nat_cmp};
+ghost use Rattle.std.specs.Prelude.{◌≡◌, ◌+◌, OnOk, OnErr};
 ghost use Rattle.std.specs.FinMap as map;
 ghost use Rattle.std.specs.FinSet as set;
 
 use no_memory::NoMemory;
 use std::alloc::Global;
-use std::collections::VecDeque;
+use std::collections::{BTreeMap, BTreeSet};
 use std::marker::Model;
+
+/// The number of the call that follows `before` calls. It fits after the last value of a counter too.
+fn next_call(before: u64) -> u128
+    ensures { result ≡ before + 1 }
+{
+    u128::from(before) + 1
+}
 
 /// Numbers of calls, which contracts see as a finite set.
 #[derive(Drop)]
 pub struct CallSet {
-    numbers: Vec<u64>,
+    numbers: BTreeSet<u128>,
 }
 
 impl Model for CallSet {
@@ -24,7 +29,7 @@ impl Model for CallSet {
 
     ghost coded = { set.code coded_ℕ };
 
-    ghost view = { λ s. set.from_list s.numbers.items };
+    ghost view = { λ s. set.from_list s.numbers.keys };
 }
 
 impl CallSet {
@@ -33,7 +38,7 @@ impl CallSet {
         ensures { result ≡ set.empty }
     {
         CallSet {
-            numbers: Vec::new(alloc),
+            numbers: BTreeSet::new(alloc),
         }
     }
 
@@ -42,7 +47,7 @@ impl CallSet {
         ensures ok { OnOk result (self.new ≡ set.insert self.old number) }
         ensures err { OnErr result (self.new ≡ self.old) }
     {
-        self.numbers.push(number)?;
+        self.numbers.insert(u128::from(number))?;
         Ok(())
     }
 
@@ -50,21 +55,14 @@ impl CallSet {
     pub fn contains_next(&self, before: u64) -> bool
         ensures { result ≡ set.contains self.now (before + 1) }
     {
-        has_number(&self.numbers, u128::from(before) + 1)
+        self.numbers.contains(&next_call(before))
     }
-}
-
-/// Whether a number is among these.
-fn has_number(numbers: &[u64], sought: u128) -> bool
-    ensures { result ≡ list_any (λ n. nat_eq n sought) numbers.now }
-{
-    numbers.iter().any(|number| u128::from(*number) == sought)
 }
 
 /// A number for each of some calls, which contracts see as a finite map.
 #[derive(Drop)]
 pub struct CallMap {
-    log: VecDeque<(u64, u64)>,
+    numbers: BTreeMap<u128, u64>,
 }
 
 impl Model for CallMap {
@@ -77,7 +75,7 @@ impl Model for CallMap {
 
     ghost coded = { map.code coded_ℕ coded_ℕ };
 
-    ghost view = { λ m. map.from_entries m.log.items };
+    ghost view = { λ m. map.from_entries m.numbers.entries };
 }
 
 impl CallMap {
@@ -86,7 +84,7 @@ impl CallMap {
         ensures { result ≡ map.empty }
     {
         CallMap {
-            log: VecDeque::new(alloc),
+            numbers: BTreeMap::new(alloc),
         }
     }
 
@@ -95,7 +93,7 @@ impl CallMap {
         ensures ok { OnOk result (self.new ≡ map.insert self.old call value) }
         ensures err { OnErr result (self.new ≡ self.old) }
     {
-        self.log.push_front((call, value))?;
+        self.numbers.insert(u128::from(call), value)?;
         Ok(())
     }
 
@@ -103,12 +101,6 @@ impl CallMap {
     pub fn get_next(&self, before: u64) -> Option<u64>
         ensures { result ≡ map.get self.now (before + 1) }
     {
-        let next = u128::from(before) + 1;
-        for (call, value) in &self.log {
-            if u128::from(*call) == next {
-                return Some(*value);
-            }
-        }
-        None
+        self.numbers.get(&next_call(before)).copied()
     }
 }

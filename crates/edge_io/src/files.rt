@@ -18,6 +18,17 @@ pub enum ReadStop {
     NotHeld = 4,
 }
 
+impl ReadStop {
+    ghost use Rattle.edge_io.specs.Reading.{stop_number};
+
+    /// The number of the cause: 1 `Failed`, 2 `TooLong`, 3 `NoMemory`, 4 `NotHeld`.
+    pub fn number(self) -> u8
+        ensures { result ≡ stop_number self }
+    {
+        self as u8
+    }
+}
+
 impl From<AllocError> for ReadStop {
     ghost use Rattle.std.specs.Prelude.{◌≡◌};
     ghost use Rattle.edge_io.specs.declared.files.ReadStop.TheVariants.{NoMemory};

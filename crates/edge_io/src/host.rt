@@ -1,6 +1,7 @@
-ghost use Rattle.std.specs.Prelude.{◌≡◌, ◌≢◌, ◌≤◌, ◌+◌, ◌++◌, ℕ, OnOk, OnErr, IfSome, IsOk, Option, None, Err, length};
+ghost use Rattle.std.specs.Prelude.{◌≡◌, ◌≢◌, ◌≤◌, ◌+◌, ◌++◌, ℕ, OnOk, OnErr, IfSome, IsOk, Option, None, Ok, Err, length};
 ghost use Rattle.edge_io.specs.Reading.{Held, read_answer, Reads, GrowsByAtMost};
-ghost use Rattle.edge_io.specs.Writing.{Puts, PutsPrefix};
+ghost use Rattle.edge_io.specs.Writing.{Puts, PutsPrefix, endless_room};
+ghost use Rattle.edge_io.specs.SystemReads.{stop_of, chunk_of_error, chunk_read};
 ghost use Rattle.edge_io.specs.Faults.{counted};
 
 use crate::files::{Files, ReadStop};
@@ -84,16 +85,16 @@ fn read_file<R: rt::Files>(
 {
     let mut file = match File::open(host, name) {
         Ok(file) => file,
-        Err(error) => return Err(stop_of(&error)),
+        Err(error) => return Err(stop_of(error.kind())),
     };
     let mut chunk = [0u8; CHUNK];
     let mut left = limit;
     for _ in 0..u64::MAX {
-        let count = match file.read(&mut chunk) {
-            Ok(0) => return Ok(()),
-            Ok(count) => count,
-            Err(error) if error.kind() == ErrorKind::Interrupted => 0,
-            Err(error) => return Err(stop_of(&error)),
+        let count = match chunk_read(file.read(&mut chunk)) {
+            ChunkRead::End => return Ok(()),
+            ChunkRead::Bytes(count) => count,
+            ChunkRead::Again => 0,
+            ChunkRead::Stop(stop) => return Err(stop),
         };
         if count as u64 > left {
             return Err(ReadStop::TooLong);
@@ -104,9 +105,46 @@ fn read_file<R: rt::Files>(
     Err(ReadStop::Failed)
 }
 
-/// What an error of the system says of a read.
-fn stop_of(error: &io::Error) -> ReadStop {
-    match error.kind() {
+/// What one read of the system gives.
+#[derive(Drop)]
+enum ChunkRead {
+    /// The file's end.
+    End,
+    /// So many bytes, at least one.
+    Bytes(usize),
+    /// Nothing: it was interrupted, and is made again.
+    Again,
+    /// A refusal.
+    Stop(ReadStop),
+}
+
+/// What one read of the system gives, by the count of its bytes or its error.
+fn chunk_read(read: io::Result<usize>) -> ChunkRead
+    ensures exact { result ≡ chunk_read read }
+    ensures counted { (n : ℕ) → result ≡ ChunkRead.Bytes n → read ≡ Ok n }
+{
+    match read {
+        Ok(0) => ChunkRead::End,
+        Ok(count) => ChunkRead::Bytes(count),
+        Err(error) => chunk_of_error(error.kind()),
+    }
+}
+
+/// What an error of the system gives: one that was interrupted is made again, and any other stops.
+fn chunk_of_error(kind: ErrorKind) -> ChunkRead
+    ensures { result ≡ chunk_of_error kind }
+{
+    match kind {
+        ErrorKind::Interrupted => ChunkRead::Again,
+        _ => ChunkRead::Stop(stop_of(kind)),
+    }
+}
+
+/// What an error of the system says of a read: only what isn't found is not held.
+fn stop_of(kind: ErrorKind) -> ReadStop
+    ensures { result ≡ stop_of kind }
+{
+    match kind {
         ErrorKind::NotFound => ReadStop::NotHeld,
         ErrorKind::OutOfMemory => ReadStop::NoMemory,
         _ => ReadStop::Failed,
@@ -143,11 +181,11 @@ impl<R: Print + Drop> Sink for HostSink<R> {
 
     ghost faults = { λ count. count };
 
-    ghost room = { λ _. 18446744073709551615 };
+    ghost room = { λ _. endless_room };
 
     fn reserve(&mut self, _alloc: Global, _more: u64) -> Result<(), NoMemory>
         ensures never_refused { IsOk result }
-        ensures room { _more ≤ 18446744073709551615 }
+        ensures room { _more ≤ endless_room }
         ensures kept { self.new ≡ self.old }
     {
         Ok(())

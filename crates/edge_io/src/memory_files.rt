@@ -1,12 +1,10 @@
 ghost use Rattle.std.specs.Prelude.{◌≡◌, ◌≢◌, ◌≤◌, ◌+◌, ◌++◌, ◌↔◌, ℕ, OnOk, OnErr, IfSome, IsTrue, length, Result, Ok, Err, if◌then◌else◌, nat_le};
 ghost use Rattle.std.specs.Option.{option_copied};
-ghost use Rattle.std.specs.FinMap.{get, insert, empty};
 ghost use Rattle.edge_io.specs.Reading.{read_answer, Reads, GrowsByAtMost};
-ghost use Rattle.std.specs.FinSet as set;
 
 use crate::calls::CallSet;
 use crate::files::{Files, ReadStop};
-use crate::names::Names;
+use crate::named_bytes::NamedBytes;
 use no_memory::NoMemory;
 use std::alloc::Global;
 use std::marker::Model;
@@ -17,7 +15,7 @@ use std::marker::Model;
 /// what is held, the namings, how many reads were made and how many of them failed.
 #[derive(Drop)]
 pub struct MemoryFiles {
-    held: Names,
+    held: NamedBytes,
     failing: CallSet,
     reads: u64,
     faults: u64,
@@ -30,19 +28,24 @@ impl Model for MemoryFiles {
 
     ghost coded = { files_code };
 
-    ghost view = { λ f. record { held = f.held; failing = f.failing; reads = f.reads; faults = f.faults } };
+    ghost view = { λ f. record {
+      held = f.held;
+      failing = f.failing;
+      reads = f.reads;
+      faults = f.faults;
+    } };
 }
 
 impl MemoryFiles {
     ghost use Rattle.edge_io.specs.Faults.{last_count};
-    ghost use Rattle.edge_io.specs.MemoryModels.{FilesModel, fails_next_read, after_read};
+    ghost use Rattle.edge_io.specs.MemoryModels.{no_files, files_with, with_failing_read, fails_next_read, after_read};
 
-    /// No files, and no read that is named to fail. It takes no memory.
+    /// No files, and no read that is named to fail.
     pub fn new(alloc: Global) -> MemoryFiles
-        ensures { result ≡ record { held = empty; failing = set.empty; reads = 0; faults = 0 } }
+        ensures { result ≡ no_files }
     {
         MemoryFiles {
-            held: Names::new(alloc),
+            held: NamedBytes::new(alloc),
             failing: CallSet::new(alloc),
             reads: 0,
             faults: 0,
@@ -55,7 +58,7 @@ impl MemoryFiles {
     ///
     /// `NoMemory` for want of memory; then the files are as before.
     pub fn add(&mut self, alloc: Global, name: &str, bytes: &[u8]) -> Result<(), NoMemory>
-        ensures ok { OnOk result (self.new ≡ record self.old { held = insert self.old.held name.now bytes.now }) }
+        ensures ok { OnOk result (self.new ≡ files_with self.old name.now bytes.now) }
         ensures err { OnErr result (self.new ≡ self.old) }
     {
         self.held.insert(alloc, name, bytes)
@@ -69,7 +72,7 @@ impl MemoryFiles {
     ///
     /// `NoMemory` for want of memory; then the files are as before.
     pub fn fail_at(&mut self, _alloc: Global, call: u64) -> Result<(), NoMemory>
-        ensures ok { OnOk result (self.new ≡ record self.old { failing = set.insert self.old.failing call }) }
+        ensures ok { OnOk result (self.new ≡ with_failing_read self.old call) }
         ensures err { OnErr result (self.new ≡ self.old) }
     {
         self.failing.insert(call)
@@ -91,7 +94,7 @@ impl MemoryFiles {
 
 impl Files for MemoryFiles {
     ghost use Rattle.std.specs.Prelude.{Some};
-    ghost use Rattle.edge_io.specs.MemoryModels.{fails_next_read, after_read};
+    ghost use Rattle.edge_io.specs.MemoryModels.{held_answer, fails_next_read, after_read};
 
     ghost held = { λ f. Some f.held };
 
@@ -111,7 +114,7 @@ impl Files for MemoryFiles {
 
         // Else it answers and appends what is held.
         ensures answer { result ≢ Err ReadStop.Failed → result ≢ Err ReadStop.NoMemory →
-            Reads (read_answer (get self.old.held name.now) limit) result into.old.items into.new.items }
+            Reads (held_answer self.old name.now limit) result into.old.items into.new.items }
         ensures refused { OnErr result (into.new.items ≡ into.old.items) }
     {
         if self.begin_read() {

@@ -1,5 +1,4 @@
 ghost use Rattle.std.specs.Prelude.{◌≡◌, ◌+◌, ◌≤◌, ◌++◌, ◌↔◌, ℕ, [], List, length, take, OnOk, OnErr, IsErr, IsSome, Option, Some, None};
-ghost use Rattle.std.specs.FinMap.{empty, insert};
 
 use crate::calls::CallMap;
 use crate::sink::{Sink, SinkFailed};
@@ -27,17 +26,22 @@ impl Model for MemorySink {
 
     ghost coded = { sink_code };
 
-    ghost view = { λ s. record { bytes = s.bytes.items; room = vec_capacity s.bytes - vec_len s.bytes; failing = s.failing; puts = s.puts; faults = s.faults } };
+    ghost view = { λ s. record {
+      bytes = s.bytes.items;
+      room = vec_capacity s.bytes - vec_len s.bytes;
+      failing = s.failing;
+      puts = s.puts;
+      faults = s.faults;
+    } };
 }
 
 impl MemorySink {
-    ghost use Rattle.std.specs.Prelude.{is_some, if◌then◌else◌};
-    ghost use Rattle.edge_io.specs.Faults.{counted, last_count};
-    ghost use Rattle.edge_io.specs.MemoryModels.{SinkModel, SameButRoom, kept_by_next_put};
+    ghost use Rattle.edge_io.specs.Faults.{last_count};
+    ghost use Rattle.edge_io.specs.MemoryModels.{new_sink, with_failing_put, SameButRoom, kept_by_next_put, after_begun_put, with_piece};
 
-    /// Nothing written, no room yet, and no put that is named to fail. It takes no memory.
+    /// Nothing written, no room yet, and no put that is named to fail.
     pub fn new(alloc: Global) -> MemorySink
-        ensures { result ≡ record { bytes = []; room = 0; failing = empty; puts = 0; faults = 0 } }
+        ensures { result ≡ new_sink }
     {
         MemorySink {
             bytes: Vec::new(alloc),
@@ -57,13 +61,13 @@ impl MemorySink {
     ///
     /// `NoMemory` for want of memory; then the sink is as before.
     pub fn fail_at(&mut self, _alloc: Global, call: u64, keep: u64) -> Result<(), NoMemory>
-        ensures ok { OnOk result (self.new ≡ record self.old { failing = insert self.old.failing call keep }) }
+        ensures ok { OnOk result (self.new ≡ with_failing_put self.old call keep) }
         ensures err { OnErr result (self.new ≡ self.old) }
     {
         self.failing.insert(call, keep)
     }
 
-    /// All bytes that were written, from the first on. It takes no memory.
+    /// All bytes that were written, from the first on.
     pub fn bytes(&self) -> &[u8]
         ensures { result.now ≡ self.now.bytes }
     {
@@ -73,10 +77,7 @@ impl MemorySink {
     /// Counts one more put, and says how many bytes it keeps where it is one that fails.
     fn begin_put(&mut self) -> Option<u64>
         ensures kept { result ≡ kept_by_next_put self.old }
-        ensures counted { self.new ≡ record self.old {
-          puts = counted self.old.puts;
-          faults = if is_some result then counted self.old.faults else self.old.faults;
-        } }
+        ensures counted { self.new ≡ after_begun_put self.old result }
         // The count is a `u64`, so it never falls.
         ensures in_range { self.old.faults ≤ last_count }
     {
@@ -89,7 +90,7 @@ impl MemorySink {
     /// Appends a piece for which there is room.
     fn append(&mut self, piece: &[u8])
         requires { length piece.now ≤ self.old.room }
-        ensures appended { SameButRoom (record self.old { bytes = self.old.bytes ++ piece.now }) self.new }
+        ensures appended { SameButRoom (with_piece self.old piece.now) self.new }
         ensures room { self.old.room ≤ self.new.room + length piece.now }
     {
         // There is room, so this takes no memory and can't fail.

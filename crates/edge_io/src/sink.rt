@@ -34,7 +34,8 @@ pub trait Sink {
 
     /// Appends the piece, which may be empty and for which there must be room.
     ///
-    /// It takes no memory, and on each answer the room falls by at most the piece's length.
+    /// As there is room, want of memory is no answer. On each answer the room falls by at most the
+    /// piece's length.
     ///
     /// # Errors
     ///

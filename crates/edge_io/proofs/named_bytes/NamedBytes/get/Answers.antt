@@ -1,7 +1,7 @@
 use Rattle.std.proofs.Common.{Some, ap, sym, ◌∙◌}
 use Rattle.std.specs.FinMap.{get}
 use Rattle.edge_io.proofs.KeyedLemmas.{get-texts}
-use Rattle.edge_io.proofs.names.Names.get.Goals as goal
+use Rattle.edge_io.proofs.named_bytes.NamedBytes.get.Goals as goal
 
 pub returns-in-Some : goal.returns-in-Some
 returns-in-Some c =

@@ -1,7 +1,7 @@
 use Rattle.std.proofs.Common.{◌≡◌, ap, ◌∙◌, rules, string_bytes}
 use Rattle.std.specs.FinMap.{insert}
 use Rattle.edge_io.proofs.KeyedLemmas.{insert-texts, texts}
-use Rattle.edge_io.proofs.names.Names.insert.Goals as goal
+use Rattle.edge_io.proofs.named_bytes.NamedBytes.insert.Goals as goal
 
 pub returns-clause-ok : goal.returns-clause-ok
 returns-clause-ok c =

@@ -29,13 +29,16 @@ impl Blob {
     }
 }
 
-/// Bytes by name, which contracts see as a finite map.
+/// Bytes by name, held in memory. Names are told apart by their bytes, of which there may be none.
+///
+/// Contracts see the finite map from the bytes of each name to the bytes that it holds. Threads read
+/// one map together, as [`crate::laws::threads_share_named_bytes`] shows.
 #[derive(Drop)]
-pub struct Names {
+pub struct NamedBytes {
     tree: BTreeMap<String, Blob>,
 }
 
-impl Model for Names {
+impl Model for NamedBytes {
     ghost use Rattle.edge_io.specs.Reading.{Held};
     ghost use Rattle.std.specs.FinMap.{from_entries, code};
     ghost use Rattle.std.specs.Coded.{coded_ℕ, coded_list};
@@ -48,17 +51,17 @@ impl Model for Names {
     ghost view = { λ n. from_entries (by_bytes n.tree.entries) };
 }
 
-impl Names {
+impl NamedBytes {
     /// No names.
-    pub fn new(alloc: Global) -> Names
+    pub fn new(alloc: Global) -> NamedBytes
         ensures { result ≡ empty }
     {
-        Names {
+        NamedBytes {
             tree: BTreeMap::new(alloc),
         }
     }
 
-    /// The bytes under a name, if it holds some.
+    /// The bytes under a name, or `None` where the name is not held.
     pub fn get(&self, name: &str) -> Option<&[u8]>
         ensures { option_copied result ≡ get self.now name.now }
     {
@@ -68,7 +71,11 @@ impl Names {
         }
     }
 
-    /// Sets the bytes under a name.
+    /// Sets the bytes under a name, in place of those that it held before.
+    ///
+    /// # Errors
+    ///
+    /// `NoMemory` for want of memory; then the map is as before.
     pub fn insert(&mut self, alloc: Global, name: &str, bytes: &[u8]) -> Result<(), NoMemory>
         ensures ok { OnOk result (self.new ≡ insert self.old name.now bytes.now) }
         ensures err { OnErr result (self.new ≡ self.old) }
