@@ -1,14 +1,14 @@
 -- A shape's four lengths and its own.
 use Rattle.std.proofs.Common.{◌≡◌, ℕ, zero, suc, ◌+◌, ◌-◌, ◌/◌, ◌%◌, ◌≤◌, ◌<◌, get_or, List, [], ◌∷◌, ◌++◌, refl, length, take, replicate, sym, ap, subst, ◌∙◌, arith}
-use Rattle.splittable.specs.Places.{count_of, places_after, IsOnAxis}
+use Rattle.splittable.specs.Places.{item_count, places_after, IsOnAxis}
 use Rattle.splittable.specs.Fields.{IsFourAxes, IsBox, padded, cut}
 use Rattle.splittable.specs.ShapeFields.{padded-take}
-use Rattle.splittable.proofs.Products.{count_of-ones, left_positive, right_positive}
+use Rattle.splittable.proofs.Products.{item_count-ones, left_positive, right_positive}
 use Rattle.splittable.proofs.Boxes.{padded_box, cut-padded}
 
-pub count_of-four : (four lens : List ℕ) (axes : ℕ) → IsFourAxes four axes → take axes four ≡ lens → count_of four ≡ count_of lens
-count_of-four four lens axes h view =
-    ap count_of (sym (padded-take four axes h) ∙ ap padded view) ∙ count_of-ones lens (4 - length lens)
+pub item_count-four : (four lens : List ℕ) (axes : ℕ) → IsFourAxes four axes → take axes four ≡ lens → item_count four ≡ item_count lens
+item_count-four four lens axes h view =
+    ap item_count (sym (padded-take four axes h) ∙ ap padded view) ∙ item_count-ones lens (4 - length lens)
 
 pub box_of_four : (four lens : List ℕ) (axes before n : ℕ) → IsFourAxes four axes → take axes four ≡ lens → IsBox lens before n → IsBox four before n
 box_of_four four lens axes before n h view is_box =
@@ -36,9 +36,9 @@ places_after-four four lens axes before h view =
     ap (λ ls. places_after ls before) (sym (padded-take four axes h) ∙ ap padded view) ∙ places_after-append lens (4 - length lens) before
 
 -- each place on an axis is one of the axis's places
-pub on_axis : (lens tail : List ℕ) (before axis : ℕ) → 1 ≤ count_of lens → axis < length lens → IsOnAxis (get_or lens axis 0) (get_or (places_after lens before ++ tail) axis 0)
+pub on_axis : (lens tail : List ℕ) (before axis : ℕ) → 1 ≤ item_count lens → axis < length lens → IsOnAxis (get_or lens axis 0) (get_or (places_after lens before ++ tail) axis 0)
 on_axis [] tail before axis some h = absurd (omega arith)
 on_axis (len ∷ lens) tail before zero some h =
-    let wide : 1 ≤ len = left_positive len (count_of lens) some in
+    let wide : 1 ≤ len = left_positive len (item_count lens) some in
     (omega arith, omega arith)
-on_axis (len ∷ lens) tail before (suc axis) some h = on_axis lens tail (before / len) axis (right_positive len (count_of lens) some) (omega arith)
+on_axis (len ∷ lens) tail before (suc axis) some h = on_axis lens tail (before / len) axis (right_positive len (item_count lens) some) (omega arith)

@@ -2,7 +2,7 @@
 use Rattle.std.proofs.Common.{◌≡◌, ℕ, zero, suc, ◌+◌, ◌-◌, ◌*◌, ◌/◌, ◌%◌, ◌<◌, ◌≤◌, ◌⊎◌, inl, inr, true, false, nat_le, if◌then◌else◌, ◌==◌, List, [], ◌∷◌, ◌++◌, replicate, refl, sym, ap, ◌∙◌, arith}
 use Rattle.std.proofs.Math.Nat.{mul-le-mul_left}
 use Rattle.std.proofs.lemmas.Bool.Decides.{nat_tests}
-use Rattle.splittable.specs.Places.{count_of, places_after}
+use Rattle.splittable.specs.Places.{item_count, places_after}
 use Rattle.splittable.specs.Parts.{widths, left_of_cut}
 use Rattle.splittable.specs.Fields.{IsBox, cut}
 use Rattle.splittable.proofs.Products.{same_run, whole_runs, last_of_runs}
@@ -108,9 +108,9 @@ cut_box (len ∷ lens) b n many (inr (q, m, eb, en, is_box)) =
     rw (eb, en) here
 
 -- all places are a box
-pub whole_box : (lens : List ℕ) → IsBox lens 0 (count_of lens)
+pub whole_box : (lens : List ℕ) → IsBox lens 0 (item_count lens)
 whole_box [] = (refl, refl)
-whole_box (len ∷ lens) = inr (0, count_of lens, omega arith, refl, whole_box lens)
+whole_box (len ∷ lens) = inr (0, item_count lens, omega arith, refl, whole_box lens)
 
 -- an axis of one place changes no box
 pub padded_box : (lens : List ℕ) (k b n : ℕ) → IsBox lens b n → IsBox (lens ++ replicate k 1) b n

@@ -4,7 +4,7 @@ use Rattle.std.specs.List.{flat_map, AllByRecursion}
 use Rattle.std.proofs.lemmas.Grind.{flat_map-append}
 use Rattle.std.proofs.Math.Logic.{∥∥₁_map, ∥∥₁_elim}
 use denote.Struct.Props.{props}
-use Rattle.splittable.specs.Places.{count_of}
+use Rattle.splittable.specs.Places.{item_count}
 use Rattle.splittable.specs.Parts.{Stretch, left_half, right_half, whole_of, AreNeighbours}
 use Rattle.splittable.specs.Nodes.{IsNode, leaves_under, leaves_of}
 use Rattle.splittable.specs.Fields.{IsPart}
@@ -115,19 +115,19 @@ all_led lens least (part ∷ parts) h =
     ∥∥₁_elim h.0 (hlevel props) (λ x. ∥∥₁_map (all_led lens least parts h.1) (λ rest.
     let way = led_to lens least x.0 part x.1 in ((way.way, way.leads), rest)))
 
-some_from_node : (lens : List ℕ) (least : ℕ) (part : Stretch) → IsNode lens least part → 1 ≤ count_of lens
+some_from_node : (lens : List ℕ) (least : ℕ) (part : Stretch) → IsNode lens least part → 1 ≤ item_count lens
 some_from_node lens least part node = ∥∥₁_elim node (hlevel props) (λ x. (led_to lens least x.0 part x.1).some)
 
 pub lists_prop : (xs ys : List Stretch) → IsProp (xs ≡ ys)
 lists_prop xs ys = hlevel props
 
 pub leaves_of_neighbours : (lens : List ℕ) (least : ℕ) (parts : List Stretch) → 1 ≤ least → AllByRecursion (IsNode lens least) parts →
-    AreNeighbours 1 parts (count_of lens + 1) → flat_map (leaves_under least) parts ≡ leaves_of lens least
+    AreNeighbours 1 parts (item_count lens + 1) → flat_map (leaves_under least) parts ≡ leaves_of lens least
 leaves_of_neighbours lens least [] large nodes near = sym (leaves_of-none lens least (omega (arith, near)))
 leaves_of_neighbours lens least (part ∷ parts) large nodes near =
-    let some : 1 ≤ count_of lens = some_from_node lens least part nodes.0 in
-    let end : count_of lens + 1 ≡ 1 + count_of lens = omega arith in
-    let near' : AreNeighbours 1 (part ∷ parts) (1 + count_of lens) = (let P : ℕ → Type 0 = λ k. AreNeighbours 1 (part ∷ parts) k in subst P end near) in
+    let some : 1 ≤ item_count lens = some_from_node lens least part nodes.0 in
+    let end : item_count lens + 1 ≡ 1 + item_count lens = omega arith in
+    let near' : AreNeighbours 1 (part ∷ parts) (1 + item_count lens) = (let P : ℕ → Type 0 = λ k. AreNeighbours 1 (part ∷ parts) k in subst P end near) in
     ∥∥₁_elim (all_led lens least (part ∷ parts) nodes) (lists_prop _ _)
-    (λ led. leaves_of_cover (count_of lens) least (whole_of lens) (part ∷ parts) (whole_part lens some) large (omega arith) led near')
+    (λ led. leaves_of_cover (item_count lens) least (whole_of lens) (part ∷ parts) (whole_part lens some) large (omega arith) led near')
     ∙ sym (leaves_of-some lens least some)

@@ -1,7 +1,7 @@
 -- How deep nodes lie, and how many leaves there are.
 use Rattle.std.proofs.Common.{ℕ, zero, suc, ◌*◌, ◌^◌, ◌≤◌, Bool, List, [], ◌∷◌, length, arith}
 use Rattle.std.proofs.Math.Nat.{mul-le-mul_left, pow-suc}
-use Rattle.splittable.specs.Places.{count_of}
+use Rattle.splittable.specs.Places.{item_count}
 use Rattle.splittable.specs.Parts.{Stretch, whole_of}
 use Rattle.splittable.specs.Nodes.{IsNodeAt, least_part_of}
 use Rattle.splittable.specs.Fields.{IsPart}
@@ -23,9 +23,9 @@ short_way (suc f) least top (side ∷ way) part h leads small =
 pub large_least : (base count : ℕ) → count ≤ 16384 * least_part_of base count
 large_least base count = omega arith
 
-pub depth_bound : (lens : List ℕ) (least base depth : ℕ) (part : Stretch) → least_part_of base (count_of lens) ≤ least → IsNodeAt lens least depth part → depth ≤ 24
+pub depth_bound : (lens : List ℕ) (least base depth : ℕ) (part : Stretch) → least_part_of base (item_count lens) ≤ least → IsNodeAt lens least depth part → depth ≤ 24
 depth_bound lens least base depth part large node =
     let way = led_to lens least depth part node in
-    let count : count_of lens ≤ 16384 * least = omega (arith, large, large_least base (count_of lens)) in
-    let small : count_of lens * 2 ^ 24 ≤ least * 3 ^ 24 = omega (arith, count) in
+    let count : item_count lens ≤ 16384 * least = omega (arith, large, large_least base (item_count lens)) in
+    let small : item_count lens * 2 ^ 24 ≤ least * 3 ^ 24 = omega (arith, count) in
     omega (arith, way.steps, short_way 24 least (whole_of lens) way.way part (whole_part lens way.some) way.leads small)

@@ -5,7 +5,7 @@ use mathlib.Core.HLevel.{×_prop}
 use denote.Struct.Props.{props}
 use Rattle.std.proofs.lemmas.Bool.{cases_lt}
 use Rattle.std.proofs.Math.Logic.{∥∥₁_elim}
-use Rattle.splittable.specs.Places.{count_of}
+use Rattle.splittable.specs.Places.{item_count}
 use Rattle.splittable.specs.Parts.{Stretch, left_half, right_half, whole_of, AreNeighbours}
 use Rattle.splittable.specs.Nodes.{the_whole, IsNode, IsLeaf, leaves_within, leaves_under, leaves_of}
 use Rattle.splittable.specs.Fields.{IsPart}
@@ -51,21 +51,21 @@ are_leaves (suc n) lens least part node h some le =
 
 pub leaves_are_leaves : (lens : List ℕ) (least : ℕ) → 1 ≤ least → AllByRecursion (IsLeaf lens least) (leaves_of lens least)
 leaves_are_leaves lens least large =
-    elim (cases_lt 0 (count_of lens)) [
+    elim (cases_lt 0 (item_count lens)) [
       | inl some ↦
-          (let some' : 1 ≤ count_of lens = omega arith in
+          (let some' : 1 ≤ item_count lens = omega arith in
           rw (leaves_of-some lens least some')
-          (are_leaves (count_of lens) lens least (whole_of lens) ∣ (0, the_whole some') ∣₁ (whole_part lens some') large (omega arith)).leaves)
+          (are_leaves (item_count lens) lens least (whole_of lens) ∣ (0, the_whole some') ∣₁ (whole_part lens some') large (omega arith)).leaves)
       | inr none ↦ rw (leaves_of-none lens least (omega arith)) tt
     ]
 
-pub leaves_are_neighbours : (lens : List ℕ) (least : ℕ) → 1 ≤ least → AreNeighbours 1 (leaves_of lens least) (count_of lens + 1)
+pub leaves_are_neighbours : (lens : List ℕ) (least : ℕ) → 1 ≤ least → AreNeighbours 1 (leaves_of lens least) (item_count lens + 1)
 leaves_are_neighbours lens least large =
-    elim (cases_lt 0 (count_of lens)) [
+    elim (cases_lt 0 (item_count lens)) [
       | inl some ↦
-          (let some' : 1 ≤ count_of lens = omega arith in
-          let end : 1 + count_of lens ≡ count_of lens + 1 = omega arith in
-          let near = (are_leaves (count_of lens) lens least (whole_of lens) ∣ (0, the_whole some') ∣₁ (whole_part lens some') large (omega arith)).near in
+          (let some' : 1 ≤ item_count lens = omega arith in
+          let end : 1 + item_count lens ≡ item_count lens + 1 = omega arith in
+          let near = (are_leaves (item_count lens) lens least (whole_of lens) ∣ (0, the_whole some') ∣₁ (whole_part lens some') large (omega arith)).near in
           rw (leaves_of-some lens least some') (let P : ℕ → Type 0 = λ k. AreNeighbours 1 (leaves_under least (whole_of lens)) k in subst P end near))
       | inr none ↦ rw (leaves_of-none lens least (omega arith)) (omega arith)
     ]

@@ -5,8 +5,8 @@ use Rattle.std.proofs.lemmas.Grind.{flat_map-append}
 use Rattle.std.proofs.lemmas.Bool.Decides.{nat_tests}
 use Rattle.std.proofs.lemmas.Bool.{cases_lt}
 use Rattle.std.proofs.Math.Nat.{mul-le-mul_right}
-use Rattle.splittable.specs.Places.{count_of}
-use Rattle.splittable.specs.Parts.{Stretch, left_len, left_half, right_half, whole_of, numbers_from, places_of}
+use Rattle.splittable.specs.Places.{item_count}
+use Rattle.splittable.specs.Parts.{Stretch, left_len, left_half, right_half, whole_of, numbers_from, part_places}
 use Rattle.splittable.specs.Nodes.{leaves_within, leaves_under, leaves_of, least_part_of}
 use Rattle.splittable.specs.Fields.{IsPart}
 use Rattle.splittable.proofs.PartHalves.{part_halves, whole_part, numbers_from-add}
@@ -53,7 +53,7 @@ leaves_under-longer least part h some longer =
     (leaves_within-enough part.len (right_half part).len least (right_half part) right.is_part some (omega (arith, right.shorter)) (omega arith))
 
 -- the places of the leaves, one after another, are those of the part
-pub places_within : (n least : ℕ) (part : Stretch) → IsPart part → 1 ≤ least → part.len ≤ n → flat_map places_of (leaves_within n least part) ≡ places_of part
+pub places_within : (n least : ℕ) (part : Stretch) → IsPart part → 1 ≤ least → part.len ≤ n → flat_map part_places (leaves_within n least part) ≡ part_places part
 places_within zero least part h some le = absurd (omega (arith, h.some))
 places_within (suc n) least part h some le =
     elim (cases_lt least part.len) [
@@ -62,14 +62,14 @@ places_within (suc n) least part h some le =
           let right = half_is false part h (omega arith) in
           let well = part_halves part h (omega arith) in
           let all : left_len part + (part.len - left_len part) ≡ part.len = omega (arith, well.halves.together) in
-          ap (flat_map places_of) (leaves_within-longer n least part longer)
-          ∙ flat_map-append places_of (leaves_within n least (left_half part)) (leaves_within n least (right_half part))
+          ap (flat_map part_places) (leaves_within-longer n least part longer)
+          ∙ flat_map-append part_places (leaves_within n least (left_half part)) (leaves_within n least (right_half part))
           ∙ ap₂ (λ xs ys. xs ++ ys)
           (places_within n least (left_half part) left.is_part some (omega (arith, left.shorter)))
           (places_within n least (right_half part) right.is_part some (omega (arith, right.shorter)))
           ∙ sym (numbers_from-add part.first (left_len part) (part.len - left_len part))
           ∙ ap (numbers_from part.first) all)
-      | inr short ↦ ap (flat_map places_of) (leaves_within-leaf (suc n) least part short) ∙ append-nil (places_of part)
+      | inr short ↦ ap (flat_map part_places) (leaves_within-leaf (suc n) least part short) ∙ append-nil (part_places part)
     ]
 
 few_enough : (leaves least : ℕ) → leaves * (least + 1) ≤ 49152 * least → leaves ≤ 49151
@@ -107,37 +107,37 @@ few_within (suc n) least part h some le longer =
     ap length (leaves_within-longer n least part longer) ∙ length-append (leaves_within n least (left_half part)) (leaves_within n least (right_half part)) in
     rw both (omega (arith, few_left, few_right, well.halves.together))
 
-pub leaves_of-none : (lens : List ℕ) (least : ℕ) → count_of lens ≡ 0 → leaves_of lens least ≡ []
+pub leaves_of-none : (lens : List ℕ) (least : ℕ) → item_count lens ≡ 0 → leaves_of lens least ≡ []
 leaves_of-none lens least e = rw e refl
 
-pub leaves_of-some : (lens : List ℕ) (least : ℕ) → 1 ≤ count_of lens → leaves_of lens least ≡ leaves_under least (whole_of lens)
-leaves_of-some lens least some = let e : (count_of lens == 0) ≡ false = grind (arith, nat_tests) in rw e refl
+pub leaves_of-some : (lens : List ℕ) (least : ℕ) → 1 ≤ item_count lens → leaves_of lens least ≡ leaves_under least (whole_of lens)
+leaves_of-some lens least some = let e : (item_count lens == 0) ≡ false = grind (arith, nat_tests) in rw e refl
 
-pub places_of_leaves : (lens : List ℕ) (least : ℕ) → 1 ≤ least → flat_map places_of (leaves_of lens least) ≡ numbers_from 1 (count_of lens)
+pub places_of_leaves : (lens : List ℕ) (least : ℕ) → 1 ≤ least → flat_map part_places (leaves_of lens least) ≡ numbers_from 1 (item_count lens)
 unfolding numbers_from
 places_of_leaves lens least large =
-    elim (cases_lt 0 (count_of lens)) [
+    elim (cases_lt 0 (item_count lens)) [
       | inl some ↦
-          (let some' : 1 ≤ count_of lens = omega arith in
-          ap (flat_map places_of) (leaves_of-some lens least some')
-          ∙ places_within (count_of lens) least (whole_of lens) (whole_part lens some') large (omega arith))
+          (let some' : 1 ≤ item_count lens = omega arith in
+          ap (flat_map part_places) (leaves_of-some lens least some')
+          ∙ places_within (item_count lens) least (whole_of lens) (whole_part lens some') large (omega arith))
       | inr none ↦
-          (let e : count_of lens ≡ 0 = omega arith in
-          ap (flat_map places_of) (leaves_of-none lens least e) ∙ ap (numbers_from 1) (sym e))
+          (let e : item_count lens ≡ 0 = omega arith in
+          ap (flat_map part_places) (leaves_of-none lens least e) ∙ ap (numbers_from 1) (sym e))
     ]
 
-pub leaves_are_few : (lens : List ℕ) (least base : ℕ) → 1 ≤ base → least_part_of base (count_of lens) ≤ least → length (leaves_of lens least) ≤ 49151
+pub leaves_are_few : (lens : List ℕ) (least base : ℕ) → 1 ≤ base → least_part_of base (item_count lens) ≤ least → length (leaves_of lens least) ≤ 49151
 leaves_are_few lens least base one large =
-    elim (cases_lt 0 (count_of lens)) [
+    elim (cases_lt 0 (item_count lens)) [
       | inl some ↦
-          (let some' : 1 ≤ count_of lens = omega arith in
+          (let some' : 1 ≤ item_count lens = omega arith in
           rw (leaves_of-some lens least some')
-          (elim (cases_lt least (count_of lens)) [
+          (elim (cases_lt least (item_count lens)) [
             | inl longer ↦
-                (let few : length (leaves_under least (whole_of lens)) * (least + 1) ≤ 3 * count_of lens =
-                few_within (count_of lens) least (whole_of lens) (whole_part lens some') (omega (arith, large)) (omega arith) longer in
-                few_enough (length (leaves_under least (whole_of lens))) least (omega (arith, few, large, large_least base (count_of lens))))
-            | inr short ↦ omega (arith, ap length (leaves_within-leaf (count_of lens) least (whole_of lens) short))
+                (let few : length (leaves_under least (whole_of lens)) * (least + 1) ≤ 3 * item_count lens =
+                few_within (item_count lens) least (whole_of lens) (whole_part lens some') (omega (arith, large)) (omega arith) longer in
+                few_enough (length (leaves_under least (whole_of lens))) least (omega (arith, few, large, large_least base (item_count lens))))
+            | inr short ↦ omega (arith, ap length (leaves_within-leaf (item_count lens) least (whole_of lens) short))
           ]))
       | inr none ↦ omega (arith, ap length (leaves_of-none lens least (omega arith)))
     ]

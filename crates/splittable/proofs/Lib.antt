@@ -1,9 +1,6 @@
 pub mod Products
 pub mod Boxes
 pub mod Strides
-pub mod Wraps
-pub mod Terms
-pub mod RangeFits
 pub mod Axes
 pub mod Excess
 pub mod PartHalves
@@ -14,3 +11,5 @@ pub mod Leaves
 pub mod Nesting
 pub mod Covers
 pub mod LeafList
+pub mod Numbers
+pub mod Listed

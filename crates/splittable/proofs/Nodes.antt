@@ -1,14 +1,23 @@
 -- Nodes are parts, and so are their halves.
 use Rattle.std.proofs.Common.{◌≡◌, ℕ, suc, ◌+◌, ◌-◌, ◌<◌, ◌≤◌, List, ◌++◌, refl, sym, ap, subst, ◌∙◌, arith}
 use Rattle.std.proofs.Math.Logic.{∥∥₁_map}
-use Rattle.splittable.specs.Parts.{Stretch, left_len, left_half, right_half, numbers_from, places_of, AreHalves}
-use Rattle.splittable.specs.Nodes.{the_left, the_right, HasNodes}
+use Rattle.splittable.specs.Parts.{Stretch, left_len, left_half, right_half, numbers_from, part_places, AreHalves}
+use Rattle.splittable.specs.Nodes.{IsNodeAt, IsNode, the_whole, the_left, the_right, HasNodes}
 use Rattle.splittable.specs.Fields.{IsPart, cut}
 use Rattle.splittable.proofs.PartHalves.{part_halves, left_len-cut, numbers_from-add}
 
 pub halves_are_nodes : (lens : List ℕ) (least : ℕ) (part : Stretch) → 1 < part.len → HasNodes lens least part (left_half part) (right_half part)
 halves_are_nodes lens least part many node longer =
     (∥∥₁_map node (λ x. (suc x.0, the_left x.1 many longer)), ∥∥₁_map node (λ x. (suc x.0, the_right x.1 many longer)))
+
+-- a node for some least part size is one for each smaller size
+smaller_at : (lens : List ℕ) (less least depth : ℕ) (part : Stretch) → less ≤ least → IsNodeAt lens least depth part → IsNodeAt lens less depth part
+smaller_at lens less least _ _ le (the_whole some) = the_whole some
+smaller_at lens less least _ _ le (the_left {depth = d} {part = p} h many longer) = the_left (smaller_at lens less least d p le h) many (omega (arith, le, longer))
+smaller_at lens less least _ _ le (the_right {depth = d} {part = p} h many longer) = the_right (smaller_at lens less least d p le h) many (omega (arith, le, longer))
+
+pub for_smaller_parts : (lens : List ℕ) (less least : ℕ) (part : Stretch) → less ≤ least → IsNode lens least part → IsNode lens less part
+for_smaller_parts lens less least part le node = ∥∥₁_map node (λ x. (x.0, smaller_at lens less least x.0 part le x.1))
 
 -- a part is cut as its halves say
 pub record IsCutIn (part left right : Stretch) : Type 0 where
@@ -17,7 +26,7 @@ pub record IsCutIn (part left right : Stretch) : Type 0 where
   pub halves : AreHalves part left right
   pub left_part : IsPart left
   pub right_part : IsPart right
-  pub whole : places_of left ++ places_of right ≡ places_of part
+  pub whole : part_places left ++ part_places right ≡ part_places part
   pub nodes : (least : ℕ) → HasNodes part.lens least part left right
 
 pub cut_in : (part : Stretch) → IsPart part → 2 ≤ part.len → IsCutIn part (left_half part) (right_half part)

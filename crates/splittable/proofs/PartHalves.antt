@@ -1,6 +1,6 @@
 -- The halves of a part are parts, one after the other.
 use Rattle.std.proofs.Common.{◌≡◌, ℕ, zero, suc, ◌+◌, ◌-◌, ◌≤◌, List, ◌∷◌, ◌++◌, length, refl, sym, ap, subst, ◌∙◌, arith}
-use Rattle.splittable.specs.Places.{count_of, places_after}
+use Rattle.splittable.specs.Places.{item_count, places_after}
 use Rattle.splittable.specs.Parts.{Stretch, numbers_from, widths, left_of_cut, left_len, left_half, right_half, whole_of, AreHalves}
 use Rattle.splittable.specs.Fields.{IsBox, IsPart, cut}
 use Rattle.splittable.proofs.Boxes.{cut_box, whole_box}
@@ -66,7 +66,7 @@ part_halves part h many =
     }
 
 -- all places of a shape
-pub whole_part : (lens : List ℕ) → 1 ≤ count_of lens → IsPart (whole_of lens)
+pub whole_part : (lens : List ℕ) → 1 ≤ item_count lens → IsPart (whole_of lens)
 whole_part lens some = record {
   from_one = omega arith;
   some = some;

@@ -2,7 +2,7 @@
 use Rattle.std.proofs.Common.{◌≡◌, ℕ, zero, suc, ◌+◌, ◌-◌, ◌*◌, ◌/◌, ◌%◌, ◌<◌, ◌≤◌, List, [], ◌∷◌, ◌++◌, length, get_or, replicate, refl, sym, ap, ◌∙◌, arith}
 use Rattle.std.proofs.lemmas.Nat.{div-add-mod', div-mul-add, mod-mul-add, mul-mod_first}
 use Rattle.std.specs.Prelude.{Contains}
-use Rattle.splittable.specs.Places.{count_of}
+use Rattle.splittable.specs.Places.{item_count}
 
 -- a product is at least 1 only where both factors are
 pub left_positive : (a b : ℕ) → 1 ≤ a * b → 1 ≤ a
@@ -14,10 +14,10 @@ right_positive a zero h = omega (arith, h)
 right_positive a (suc b) h = omega arith
 
 -- ones change no product
-pub count_of-ones : (lens : List ℕ) (k : ℕ) → count_of (lens ++ replicate k 1) ≡ count_of lens
-count_of-ones [] zero = refl
-count_of-ones [] (suc k) = let ih : count_of (replicate k 1) ≡ 1 = count_of-ones [] k in omega (arith, ih)
-count_of-ones (len ∷ lens) k = ap (λ n. len * n) (count_of-ones lens k)
+pub item_count-ones : (lens : List ℕ) (k : ℕ) → item_count (lens ++ replicate k 1) ≡ item_count lens
+item_count-ones [] zero = refl
+item_count-ones [] (suc k) = let ih : item_count (replicate k 1) ≡ 1 = item_count-ones [] k in omega (arith, ih)
+item_count-ones (len ∷ lens) k = ap (λ n. len * n) (item_count-ones lens k)
 
 -- so many more than a number, on the same run
 pub same_run : (b k len : ℕ) → b % len + k < len → ((b + k) % len ≡ b % len + k) × ((b + k) / len ≡ b / len)
@@ -46,8 +46,8 @@ mod_small : (n : ℕ) → n < 18446744073709551616 → n % 18446744073709551616 
 mod_small n h = omega arith
 
 -- four factors, wrapped at each product, where the whole product is small
-pub wrapped_four : (lens : List ℕ) → length lens ≡ 4 → count_of lens ≤ 4294967296 →
-    get_or lens 0 0 * get_or lens 1 0 % 18446744073709551616 * get_or lens 2 0 % 18446744073709551616 * get_or lens 3 0 % 18446744073709551616 ≡ count_of lens
+pub wrapped_four : (lens : List ℕ) → length lens ≡ 4 → item_count lens ≤ 4294967296 →
+    get_or lens 0 0 * get_or lens 1 0 % 18446744073709551616 * get_or lens 2 0 % 18446744073709551616 * get_or lens 3 0 % 18446744073709551616 ≡ item_count lens
 wrapped_four (a ∷ b ∷ c ∷ d ∷ []) e few =
     let all : a * (b * (c * (d * 1))) ≡ a * b * c * d = omega arith in
     let small : a * b * c * d < 18446744073709551616 = omega (arith, few, all) in
@@ -62,14 +62,14 @@ wrapped_four (a ∷ b ∷ c ∷ []) e few = absurd (omega (arith, e))
 wrapped_four (a ∷ b ∷ c ∷ d ∷ x ∷ xs) e few = absurd (omega (arith, e))
 
 -- a product is 0 exactly where a factor is
-pub zero_of_product : (lens : List ℕ) → count_of lens ≡ 0 → Contains lens 0
+pub zero_of_product : (lens : List ℕ) → item_count lens ≡ 0 → Contains lens 0
 zero_of_product [] e = absurd (omega (arith, e))
 zero_of_product (zero ∷ lens) e = (0, omega arith, refl)
 zero_of_product (suc len ∷ lens) e =
     let rest : Contains lens 0 = zero_of_product lens (omega (arith, e)) in
     (suc rest.0, omega (arith, rest.1), rest.2)
 
-pub product_of_zero : (lens : List ℕ) (k : ℕ) → k < length lens → get_or lens k 0 ≡ 0 → count_of lens ≡ 0
+pub product_of_zero : (lens : List ℕ) (k : ℕ) → k < length lens → get_or lens k 0 ≡ 0 → item_count lens ≡ 0
 product_of_zero [] k h e = absurd (omega arith)
 product_of_zero (len ∷ lens) zero h e = rw e (omega arith)
-product_of_zero (len ∷ lens) (suc k) h e = let ih : count_of lens ≡ 0 = product_of_zero lens k (omega arith) e in rw ih (omega arith)
+product_of_zero (len ∷ lens) (suc k) h e = let ih : item_count lens ≡ 0 = product_of_zero lens k (omega arith) e in rw ih (omega arith)

@@ -1,6 +1,6 @@
 -- Nodes by the way down to them from a part: which half is taken at each halving.
 use Rattle.std.proofs.Common.{◌≡◌, ℕ, ◌+◌, ◌*◌, ◌<◌, ◌≤◌, Bool, true, false, List, [], ◌∷◌, ◌++◌, length, length-append, refl, sym, subst, ◌∙◌, arith}
-use Rattle.splittable.specs.Places.{count_of}
+use Rattle.splittable.specs.Places.{item_count}
 use Rattle.splittable.specs.Parts.{Stretch, left_half, right_half, whole_of, LiesIn}
 use Rattle.splittable.specs.Nodes.{IsNodeAt, the_whole, the_left, the_right}
 use Rattle.splittable.specs.Fields.{IsPart}
@@ -25,7 +25,7 @@ leads_on least top (turn ∷ way) part side h many longer = (h.0, h.1, leads_on 
 
 -- each node is led to from the whole, by as many halvings as its depth
 pub record IsLedTo (lens : List ℕ) (least depth : ℕ) (part : Stretch) : Type 0 where
-  pub some : 1 ≤ count_of lens
+  pub some : 1 ≤ item_count lens
   pub way : List Bool
   pub leads : Leads least (whole_of lens) way part
   pub steps : length way ≡ depth

@@ -2,7 +2,7 @@
 use Rattle.std.proofs.Common.{◌≡◌, ℕ, zero, suc, ◌*◌, ◌/◌, ◌<◌, ◌≤◌, inl, inr, true, false, nat_le, if◌then◌else◌, List, [], ◌∷◌, length, get_or, refl, sym, ap, ◌∙◌, arith}
 use Rattle.std.proofs.Math.Nat.{mul-le-mul_left, mul-div_cancel_left}
 use Rattle.std.proofs.lemmas.Bool.Decides.{nat_tests}
-use Rattle.splittable.specs.Places.{count_of}
+use Rattle.splittable.specs.Places.{item_count}
 use Rattle.splittable.specs.Fields.{IsBox, cut}
 use Rattle.splittable.proofs.Products.{left_positive, right_positive}
 use Rattle.splittable.proofs.Boxes.{cut-in_run, cut-of_runs}
@@ -56,7 +56,7 @@ pub record FourCuts (a b c : ℕ) (lens : List ℕ) (n : ℕ) : Type 0 where
   pub on_third : a * b < n → a < n → n ≤ a * b * c → left_by (a * b) n ≡ cut lens n
   pub on_fourth : a * b * c < n → a * b < n → a < n → left_by (a * b * c) n ≡ cut lens n
 
-four_cuts : (a b c d before n : ℕ) → n ≤ count_of (a ∷ b ∷ c ∷ d ∷ []) → IsBox (a ∷ b ∷ c ∷ d ∷ []) before n → FourCuts a b c (a ∷ b ∷ c ∷ d ∷ []) n
+four_cuts : (a b c d before n : ℕ) → n ≤ item_count (a ∷ b ∷ c ∷ d ∷ []) → IsBox (a ∷ b ∷ c ∷ d ∷ []) before n → FourCuts a b c (a ∷ b ∷ c ∷ d ∷ []) n
 four_cuts a b c d before n most h =
     let e : strided 1 (a ∷ b ∷ c ∷ d ∷ []) (1 * n) ≡ 1 * cut (a ∷ b ∷ c ∷ d ∷ []) n = strided-cut 1 (a ∷ b ∷ c ∷ d ∷ []) before n (omega arith) h in
     let one : 1 * n ≡ n = omega arith in
@@ -71,7 +71,7 @@ four_cuts a b c d before n most h =
     }
 
 -- the same of four lengths in a list
-pub cuts_of_four : (lens : List ℕ) (before n : ℕ) → length lens ≡ 4 → n ≤ count_of lens → IsBox lens before n →
+pub cuts_of_four : (lens : List ℕ) (before n : ℕ) → length lens ≡ 4 → n ≤ item_count lens → IsBox lens before n →
     FourCuts (get_or lens 0 0) (get_or lens 1 0) (get_or lens 2 0) lens n
 cuts_of_four (a ∷ b ∷ c ∷ d ∷ []) before n e most h = four_cuts a b c d before n most h
 cuts_of_four [] before n e most h = absurd (omega (arith, e))
@@ -89,7 +89,7 @@ pub record FourProducts (a b c : ℕ) (count : ℕ) : Type 0 where
   pub second_most : a * b ≤ count
   pub third_most : a * b * c ≤ count
 
-pub products_of_four : (lens : List ℕ) → length lens ≡ 4 → 1 ≤ count_of lens → FourProducts (get_or lens 0 0) (get_or lens 1 0) (get_or lens 2 0) (count_of lens)
+pub products_of_four : (lens : List ℕ) → length lens ≡ 4 → 1 ≤ item_count lens → FourProducts (get_or lens 0 0) (get_or lens 1 0) (get_or lens 2 0) (item_count lens)
 products_of_four (a ∷ b ∷ c ∷ d ∷ []) e some =
     let abcd : 1 ≤ (a * b * c) * d = omega (arith, some) in
     let abc : 1 ≤ a * b * c = left_positive (a * b * c) d abcd in

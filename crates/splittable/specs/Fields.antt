@@ -1,7 +1,9 @@
 -- What the fields of a shape and of a part keep: this project's representation.
-use Rattle.std.specs.Prelude.{◌≡◌, ℕ, ◌+◌, ◌-◌, ◌*◌, ◌/◌, ◌%◌, if◌then◌else◌, nat_le, ◌≤◌, ◌⊎◌, List, [], ◌∷◌, ◌++◌, length, take, drop, replicate}
+use Rattle.std.specs.Prelude.{◌≡◌, ℕ, ◌+◌, ◌-◌, ◌*◌, ◌/◌, ◌%◌, if◌then◌else◌, nat_le, ◌≤◌, ◌<◌, ◌⊎◌, List, [], ◌∷◌, ◌++◌, length, take, drop, replicate, ℤ, FitsSigned}
+use Rattle.std.specs.Int.{w64}
+use Rattle.number_ranges.specs.Ranges.{range_item}
 use Rattle.splittable.specs.Ranges.{most_items}
-use Rattle.splittable.specs.Places.{count_of}
+use Rattle.splittable.specs.Places.{item_count}
 use Rattle.splittable.specs.Parts.{Stretch}
 
 -- the lengths of one to four axes, and then 1 for each axis that is not there; few enough items
@@ -10,7 +12,11 @@ pub record IsFourAxes (lens : List ℕ) (axes : ℕ) : Type 0 where
   pub some : 1 ≤ axes
   pub most : axes ≤ 4
   pub padding : drop axes lens ≡ replicate (4 - axes) 1
-  pub few : count_of (take axes lens) ≤ most_items
+  pub few : item_count (take axes lens) ≤ most_items
+
+-- each of so many items, so many steps on from a first, fits 64 bits
+abbrev pub ItemsFit : ℤ → ℤ → ℕ → Type 0
+ItemsFit first step count = (k : ℕ) → k < count → FitsSigned w64 (range_item first step k)
 
 -- the lengths, with 1 for each axis that is not there
 abbrev pub padded : List ℕ → List ℕ
@@ -27,10 +33,18 @@ IsBox (len ∷ lens) before n =
 pub record IsPart (part : Stretch) : Type 0 where
   pub from_one : 1 ≤ part.first
   pub some : 1 ≤ part.len
-  pub within : part.first + part.len ≤ count_of part.lens + 1
+  pub within : part.first + part.len ≤ item_count part.lens + 1
   pub box : IsBox part.lens (part.first - 1) part.len
+
+-- a part of a shape with few enough items
+abbrev pub IsSmallPart : Stretch → Type 0
+IsSmallPart part = IsPart part × (item_count part.lens ≤ most_items)
 
 -- how many of the n items of a box lie left of its cut, by the lengths alone
 abbrev pub cut : List ℕ → ℕ → ℕ
 cut [] n = 0
 cut (len ∷ lens) n = if nat_le n len then n / 2 else len * cut lens (n / len)
+
+-- so many items share one place on the axis on which a box of n items is cut
+abbrev pub IsStride : List ℕ → ℕ → ℕ → Type 0
+IsStride lens n stride = (before : ℕ) → IsBox lens before n → n / stride / 2 * stride ≡ cut lens n

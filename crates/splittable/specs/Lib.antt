@@ -4,3 +4,4 @@ pub mod Parts
 pub mod Nodes
 pub mod Fields
 pub mod ShapeFields
+pub mod Laws

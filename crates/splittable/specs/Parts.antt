@@ -1,7 +1,7 @@
 -- A part of a shape: consecutive places. Its windows on the axes, and its two halves.
 -- Source: `halve` of SplittablesBase.jl; where a part is cut is this project's own.
 use Rattle.std.specs.Prelude.{◌≡◌, ◌≤◌, ◌<◌, ℕ, zero, suc, ◌+◌, ◌-◌, ◌*◌, ◌/◌, ◌==◌, if◌then◌else◌, List, [], ◌∷◌}
-use Rattle.splittable.specs.Places.{count_of, places_on_axes}
+use Rattle.splittable.specs.Places.{item_count, places_on_axes}
 
 -- so many places of a shape of these lengths, from the first on
 pub record Stretch : Type 0 where
@@ -15,12 +15,12 @@ numbers_from first zero = []
 numbers_from first (suc n) = first ∷ numbers_from (suc first) n
 
 -- the places of the items of a part, in order
-abbrev pub places_of : Stretch → List ℕ
-places_of part = numbers_from part.first part.len
+abbrev pub part_places : Stretch → List ℕ
+part_places part = numbers_from part.first part.len
 
 -- the place of the last item of a part
-abbrev pub last_of : Stretch → ℕ
-last_of part = part.first + part.len - 1
+abbrev pub last_place : Stretch → ℕ
+last_place part = part.first + part.len - 1
 
 -- how many places there are on each axis, from one item's place there to another's
 abbrev pub widths : List ℕ → List ℕ → List ℕ
@@ -29,7 +29,7 @@ widths _ _ = []
 
 -- the length of a part's window on each axis, from the place of its first item to that of its last
 abbrev pub windows_of : Stretch → List ℕ
-windows_of part = widths (places_on_axes part.lens part.first) (places_on_axes part.lens (last_of part))
+windows_of part = widths (places_on_axes part.lens part.first) (places_on_axes part.lens (last_place part))
 
 -- how many items lie left of the cut: the slowest axis whose window is longer than one is cut after half its window
 abbrev pub left_of_cut : List ℕ → List ℕ → ℕ
@@ -49,7 +49,7 @@ right_half part = record { lens = part.lens; first = part.first + left_len part;
 
 -- all places of a shape
 abbrev pub whole_of : List ℕ → Stretch
-whole_of lens = record { lens = lens; first = 1; len = count_of lens }
+whole_of lens = record { lens = lens; first = 1; len = item_count lens }
 
 -- two parts are the halves of a part: they lie next to each other, they are all of it, and each has at least a third of it
 pub record AreHalves (part left right : Stretch) : Type 0 where
@@ -62,8 +62,8 @@ pub record AreHalves (part left right : Stretch) : Type 0 where
   pub right_third : part.len ≤ 3 * right.len
 
 -- a place lies in a part
-abbrev pub Holds : Stretch → ℕ → Type 0
-Holds part place = (part.first ≤ place) × (place < part.first + part.len)
+abbrev pub HoldsPlace : Stretch → ℕ → Type 0
+HoldsPlace part place = (part.first ≤ place) × (place < part.first + part.len)
 
 -- each place of a part lies in another part
 abbrev pub LiesIn : Stretch → Stretch → Type 0
@@ -71,7 +71,7 @@ LiesIn part outer = (outer.first ≤ part.first) × (part.first + part.len ≤ o
 
 -- a part has places of a shape of these lengths, and no others
 abbrev pub LiesInShape : List ℕ → Stretch → Type 0
-LiesInShape lens part = (part.lens ≡ lens) × (1 ≤ part.first) × (1 ≤ part.len) × (part.first + part.len ≤ count_of lens + 1)
+LiesInShape lens part = (part.lens ≡ lens) × (1 ≤ part.first) × (1 ≤ part.len) × (part.first + part.len ≤ item_count lens + 1)
 
 -- parts that lie next to each other, from one place up to another that is not among theirs
 abbrev pub AreNeighbours : ℕ → List Stretch → ℕ → Type 0

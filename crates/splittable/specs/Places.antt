@@ -1,14 +1,15 @@
 -- The items of a shape and their places on its axes: a mixed base, the first axis fastest, all counted from 1.
 -- Source: Julia's `Iterators.product`, whose first part changes fastest; this project's limits.
-use Rattle.std.specs.Prelude.{ℕ, ◌≤◌, ◌+◌, ◌-◌, ◌*◌, ◌/◌, ◌%◌, if◌then◌else◌, nat_lt, List, [], ◌∷◌, ◌++◌, length, replicate, Result, Ok, Err}
+use Rattle.std.specs.Prelude.{ℕ, ◌≤◌, ◌<◌, ◌+◌, ◌-◌, ◌*◌, ◌/◌, ◌%◌, if◌then◌else◌, nat_lt, List, [], ◌∷◌, ◌++◌, length, map, take, find, unwrap_or, replicate, slice_index, Option, Some, None, Result, Ok, Err}
+use Rattle.std.specs.List.{range_with_len}
 use Rattle.splittable.specs.Ranges.{most_items}
 use Rattle.splittable.specs.declared.shapes.ShapeRefusal.{ShapeRefusal}
 use Rattle.splittable.specs.declared.shapes.ShapeRefusal.TheVariants.{NoAxis, TooManyAxes, TooManyItems}
 
 -- how many items a shape has: the product of its lengths
-abbrev pub count_of : List ℕ → ℕ
-count_of [] = 1
-count_of (len ∷ lens) = len * count_of lens
+abbrev pub item_count : List ℕ → ℕ
+item_count [] = 1
+item_count (len ∷ lens) = len * item_count lens
 
 -- the place on each axis of the item with so many items before it
 abbrev pub places_after : List ℕ → ℕ → List ℕ
@@ -27,16 +28,26 @@ places_on_four lens place = places_on_axes lens place ++ replicate (4 - length l
 abbrev pub IsOnAxis : ℕ → ℕ → Type 0
 IsOnAxis len place = (1 ≤ place) × (place ≤ len)
 
--- of the products of ever more lengths, the first that is over the limit, where so many items come of the lengths before
-abbrev pub first_excess : ℕ → List ℕ → ℕ
-first_excess items [] = items
-first_excess items (len ∷ lens) =
-    if nat_lt most_items (items * len) then items * len else first_excess (items * len) lens
+-- there is such a place on each axis
+abbrev pub AreOnAxes : List ℕ → List ℕ → Type 0
+AreOnAxes lens places = (axis : ℕ) → axis < length lens → IsOnAxis (slice_index lens axis) (slice_index places axis)
+
+-- how many items the first lengths have: none of them, one, two, .., all of them
+abbrev pub prefix_counts : List ℕ → List ℕ
+prefix_counts lens = map (λ n. item_count (take n lens)) (range_with_len 0 (length lens + 1))
+
+-- where there are too many items, how many the shortest prefix of the lengths has that has too many
+abbrev pub first_excess : List ℕ → ℕ
+first_excess lens = unwrap_or (find (nat_lt most_items) (prefix_counts lens)) (item_count lens)
+
+-- the first excess, if there are too many items
+abbrev pub excess_of : List ℕ → Option ℕ
+excess_of lens = if nat_lt most_items (item_count lens) then Some (first_excess lens) else None
 
 -- the lengths of a shape, or why they are refused
-abbrev pub shape_of : List ℕ → Result (List ℕ) ShapeRefusal
-shape_of [] = Err NoAxis
-shape_of lens =
+abbrev pub checked_shape : List ℕ → Result (List ℕ) ShapeRefusal
+checked_shape [] = Err NoAxis
+checked_shape lens =
     if nat_lt 4 (length lens) then Err TooManyAxes
-    else if nat_lt most_items (count_of lens) then Err (TooManyItems (first_excess 1 lens))
+    else if nat_lt most_items (item_count lens) then Err (TooManyItems (first_excess lens))
     else Ok lens

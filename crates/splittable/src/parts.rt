@@ -1,9 +1,10 @@
 //! Parts: stretches of a shape's places.
 
-ghost use Rattle.std.specs.Prelude.{◌≡◌, ◌≤◌, ◌<◌, ◌↔◌, ◌+◌, ℕ, length, ◌++◌, IsNone, IfSome, slice_index, [], ◌∷◌};
-ghost use Rattle.splittable.specs.Places.{count_of, places_on_four, IsOnAxis};
-ghost use Rattle.splittable.specs.Parts.{places_of, whole_of, left_half, right_half, AreHalves};
-ghost use Rattle.splittable.specs.Nodes.{HasNodes, least_part_of};
+ghost use Rattle.std.specs.Prelude.{◌≡◌, ◌≤◌, ◌<◌, ◌↔◌, ◌+◌, length, ◌++◌, IsNone, IfSome, [], ◌∷◌};
+ghost use Rattle.splittable.specs.Ranges.{most_items};
+ghost use Rattle.splittable.specs.Places.{item_count, places_on_four, AreOnAxes};
+ghost use Rattle.splittable.specs.Parts.{part_places, whole_of, left_half, right_half, AreHalves};
+ghost use Rattle.splittable.specs.Nodes.{HasNodesAlways, least_part_of};
 
 use super::halving::Splittable;
 use super::shapes::Shape;
@@ -20,17 +21,14 @@ pub struct Part {
 }
 
 impl Model for Part {
-    ghost use Rattle.std.specs.Prelude.{◌≤◌};
-    ghost use Rattle.splittable.specs.Ranges.{most_items};
-    ghost use Rattle.splittable.specs.Places.{count_of};
     ghost use Rattle.splittable.specs.Parts.{Stretch};
-    ghost use Rattle.splittable.specs.Fields.{IsPart};
+    ghost use Rattle.splittable.specs.Fields.{IsSmallPart};
 
     ghost Value = { Stretch };
 
     ghost view = { λ p. record { lens = p.shape; first = p.first; len = p.len } };
 
-    ghost invariant = { λ p. IsPart (record { lens = p.shape; first = p.first; len = p.len }) × (count_of p.shape ≤ most_items) };
+    ghost invariant = { λ p. IsSmallPart (record { lens = p.shape; first = p.first; len = p.len }) };
 
     ghost inverse = { λ s. record { shape = s.lens; first = s.first; len = s.len } };
 }
@@ -38,9 +36,9 @@ impl Model for Part {
 impl Part {
     /// All places of a shape, of which there are so many.
     pub(crate) fn all_of(shape: Shape, count: u64) -> Part
-        requires count { count ≡ count_of shape }
+        requires count { count ≡ item_count shape }
         requires some { 1 ≤ count }
-        requires few { count ≤ 4294967296 }
+        requires few { count ≤ most_items }
         ensures { result ≡ whole_of shape }
     {
         Part {
@@ -54,8 +52,8 @@ impl Part {
     pub fn first(&self) -> u64
         ensures value { result ≡ self.now.first }
         ensures from_one { 1 ≤ result }
-        ensures few { result ≤ 4294967296 }
-        ensures within { result + self.now.len ≤ count_of self.now.lens + 1 }
+        ensures few { result ≤ most_items }
+        ensures within { result + self.now.len ≤ item_count self.now.lens + 1 }
     {
         self.first
     }
@@ -64,8 +62,8 @@ impl Part {
     pub fn len(&self) -> u64
         ensures value { result ≡ self.now.len }
         ensures some { 1 ≤ result }
-        ensures few { result ≤ 4294967296 }
-        ensures within { self.now.first + result ≤ count_of self.now.lens + 1 }
+        ensures few { result ≤ most_items }
+        ensures within { self.now.first + result ≤ item_count self.now.lens + 1 }
     {
         self.len
     }
@@ -76,7 +74,7 @@ impl Part {
         requires low { self.now.first ≤ k }
         requires high { k < self.now.first + self.now.len }
         ensures value { result ≡ places_on_four self.now.lens k }
-        ensures on_axes { (axis : ℕ) → axis < length self.now.lens → IsOnAxis (slice_index self.now.lens axis) (slice_index result axis) }
+        ensures on_axes { AreOnAxes self.now.lens result }
     {
         self.shape.places_after(k - 1)
     }
@@ -94,10 +92,10 @@ impl Default for Part {
 impl Splittable for Part {
     type Item = u64;
 
-    ghost items = { places_of };
+    ghost items = { part_places };
 
     fn amount(&self) -> u64
-        ensures items { result ≡ length (places_of self.now) }
+        ensures items { result ≡ length (part_places self.now) }
         ensures value { result ≡ self.now.len }
     {
         self.len
@@ -106,16 +104,17 @@ impl Splittable for Part {
     /// The halves: the slowest axis whose window is longer than one is cut after half its window, rounded down. The last
     /// axis is the slowest.
     fn halve(&self) -> Option<(Part, Part)>
-        ensures none { IsNone result ↔ (length (places_of self.now) ≤ 1) }
-        ensures left { IfSome result (λ halves. 0 < length (places_of halves.0)) }
-        ensures right { IfSome result (λ halves. 0 < length (places_of halves.1)) }
-        ensures whole { IfSome result (λ halves. places_of halves.0 ++ places_of halves.1 ≡ places_of self.now) }
+        ensures none { IsNone result ↔ (length (part_places self.now) ≤ 1) }
+        ensures left { IfSome result (λ halves. 0 < length (part_places halves.0)) }
+        ensures right { IfSome result (λ halves. 0 < length (part_places halves.1)) }
+        ensures whole { IfSome result (λ halves. part_places halves.0 ++ part_places halves.1 ≡ part_places self.now) }
 
         ensures one { IsNone result ↔ (self.now.len ≡ 1) }
-        ensures cut { IfSome result (λ halves. (halves.0 ≡ left_half self.now) × (halves.1 ≡ right_half self.now)) }
+        ensures cut_left { IfSome result (λ halves. halves.0 ≡ left_half self.now) }
+        ensures cut_right { IfSome result (λ halves. halves.1 ≡ right_half self.now) }
         ensures halves { IfSome result (λ halves. AreHalves self.now halves.0 halves.1) }
         // Halves of a node that is longer than the least part size are nodes, whatever that size is.
-        ensures nodes { IfSome result (λ halves. (least : ℕ) → HasNodes self.now.lens least self.now halves.0 halves.1) }
+        ensures nodes { IfSome result (λ halves. HasNodesAlways self.now halves.0 halves.1) }
     {
         if self.len == 1 {
             return None;
@@ -139,11 +138,11 @@ impl Splittable for Part {
 /// The length up to which a part isn't halved: the larger of `base` and the 16,384th part of `count`, rounded up.
 pub fn least_part(base: u64, count: u64) -> u64
     requires low { 1 ≤ base }
-    requires high { base ≤ 4294967296 }
-    requires count { count ≤ 4294967296 }
+    requires high { base ≤ most_items }
+    requires count { count ≤ most_items }
     ensures value { result ≡ least_part_of base count }
     ensures some { 1 ≤ result }
-    ensures most { result ≤ 4294967296 }
+    ensures most { result ≤ most_items }
 {
     base.max(count.div_ceil(16384))
 }

@@ -1,10 +1,10 @@
 //! Ranges of 64-bit numbers.
 
-ghost use Rattle.std.specs.Prelude.{◌≡◌, ◌≢◌, ℕ, ◌+◌, ◌-◌, ◌/◌, ◌<◌, ◌≤◌, ◌↔◌, List, ◌++◌, length, IsNone, IfSome, Some, pos, ◌+ℤ◌, ◌*ℤ◌, FitsSigned, slice_get};
-ghost use Rattle.std.specs.Int.{w64};
-ghost use Rattle.splittable.specs.Ranges.{lies_behind, range_count, range_of, most_items};
+ghost use Rattle.std.specs.Prelude.{◌≡◌, ◌-◌, ◌/◌, ◌<◌, ◌≤◌, ◌↔◌, List, ◌++◌, length, IsNone, IfSome, Some, slice_get};
+ghost use Rattle.splittable.specs.Ranges.{checked_range, most_items};
 
 use super::halving::Splittable;
+use number_ranges::{range_count, range_item};
 use std::marker::Model;
 
 /// Why a range is refused.
@@ -30,15 +30,16 @@ pub struct Range {
 }
 
 impl Model for Range {
-    ghost use Rattle.std.specs.Prelude.{ℕ, ◌<◌, ◌≤◌, ◌*ℤ◌, ◌+ℤ◌, ℤ, pos, List, FitsSigned};
-    ghost use Rattle.std.specs.Int.{w64};
-    ghost use Rattle.splittable.specs.Ranges.{terms, most_items};
+    ghost use Rattle.std.specs.Prelude.{◌≤◌, ℤ, List};
+    ghost use Rattle.number_ranges.specs.Ranges.{items_from};
+    ghost use Rattle.splittable.specs.Ranges.{most_items};
+    ghost use Rattle.splittable.specs.Fields.{ItemsFit};
 
     ghost Value = { List ℤ };
 
-    ghost view = { λ r. terms r.first r.step r.count };
+    ghost view = { λ r. items_from r.first r.step r.count };
 
-    ghost invariant = { λ r. (r.count ≤ most_items) × ((k : ℕ) → k < r.count → FitsSigned w64 (r.first +ℤ pos k *ℤ r.step)) };
+    ghost invariant = { λ r. (r.count ≤ most_items) × ItemsFit r.first r.step r.count };
 }
 
 impl Range {
@@ -47,7 +48,7 @@ impl Range {
     /// `StepZero` comes exactly where the step is 0, and otherwise `TooLong` exactly where the range has over
     /// 4,294,967,296 items.
     pub fn new(first: i64, step: i64, last: i64) -> Result<Range, RangeRefusal>
-        ensures { result ≡ range_of first step last }
+        ensures { result ≡ checked_range first step last }
     {
         if step == 0 {
             return Err(RangeRefusal::StepZero);
@@ -69,7 +70,7 @@ impl Range {
         requires high { k ≤ length self.now }
         ensures { slice_get self.now (k - 1) ≡ Some result }
     {
-        term(self.first, self.step, k - 1)
+        range_item(self.first, self.step, k - 1)
     }
 }
 
@@ -80,7 +81,7 @@ impl Splittable for Range {
 
     fn amount(&self) -> u64
         ensures items { result ≡ length self.now }
-        ensures few { result ≤ 4294967296 }
+        ensures few { result ≤ most_items }
     {
         self.count
     }
@@ -104,38 +105,10 @@ impl Splittable for Range {
                 count: left,
             },
             Range {
-                first: term(self.first, self.step, left),
+                first: range_item(self.first, self.step, left),
                 step: self.step,
                 count: self.count - left,
             },
         ))
     }
-}
-
-/// Whether the last lies on the wrong side of the first.
-fn lies_behind(first: i64, step: i64, last: i64) -> bool
-    ensures { result ≡ lies_behind first step last }
-{
-    if step < 0 { first < last } else { last < first }
-}
-
-/// How many items the range has: at most 2^64.
-fn range_count(first: i64, step: i64, last: i64) -> u128
-    requires { step ≢ pos 0 }
-    ensures { result ≡ range_count first step last }
-{
-    if lies_behind(first, step, last) {
-        return 0;
-    }
-    u128::from(last.abs_diff(first)) / u128::from(step.unsigned_abs()) + 1
-}
-
-/// The number that lies so many steps after the first.
-fn term(first: i64, step: i64, steps: u64) -> i64
-    requires few { steps ≤ most_items }
-    requires fits { FitsSigned w64 (first +ℤ pos steps *ℤ step) }
-    ensures { result ≡ first +ℤ pos steps *ℤ step }
-{
-    // The product may wrap, and then the sum wraps back.
-    first.wrapping_add((steps as i64).wrapping_mul(step))
 }

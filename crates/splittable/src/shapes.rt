@@ -1,11 +1,11 @@
 //! Shapes: products of up to four axes.
 
-ghost use Rattle.std.specs.Prelude.{◌≡◌, ◌≤◌, ◌<◌, ◌↔◌, ◌-◌, ◌+◌, ◌*◌, ◌/◌, ◌%◌, ◌++◌, ℕ, length, replicate, All, Contains, IsNone, IfSome, Some, None, nat_lt, if◌then◌else◌};
+ghost use Rattle.std.specs.Prelude.{◌≡◌, ◌≤◌, ◌<◌, ◌↔◌, ◌-◌, ◌+◌, ◌/◌, ◌%◌, ◌++◌, ℕ, length, replicate, All, Contains, IsNone, IfSome};
 ghost use Rattle.splittable.specs.Ranges.{most_items};
-ghost use Rattle.splittable.specs.Places.{count_of, first_excess, places_after, shape_of};
+ghost use Rattle.splittable.specs.Places.{item_count, excess_of, places_after, checked_shape};
 ghost use Rattle.splittable.specs.Parts.{whole_of};
 ghost use Rattle.splittable.specs.Nodes.{IsNode};
-ghost use Rattle.splittable.specs.Fields.{padded, IsBox, cut};
+ghost use Rattle.splittable.specs.Fields.{padded, IsBox, IsStride, cut};
 
 use super::parts::Part;
 use super::ranges::MOST_ITEMS;
@@ -84,8 +84,8 @@ impl Shape {
     /// `NoAxis` comes exactly where there is none; `TooManyAxes` exactly where there are over four; and otherwise
     /// `TooManyItems` exactly where no length is 0 and there are over 4,294,967,296 items.
     pub fn new(lens: &[u64]) -> Result<Shape, ShapeRefusal>
-        requires { All (λ len. len ≤ 4294967296) lens.now }
-        ensures { result ≡ shape_of lens.now }
+        requires { All (λ len. len ≤ most_items) lens.now }
+        ensures { result ≡ checked_shape lens.now }
     {
         if lens.is_empty() {
             return Err(ShapeRefusal::NoAxis);
@@ -111,8 +111,8 @@ impl Shape {
 
     /// How many items there are: the product of the lengths.
     pub fn count(&self) -> u64
-        ensures value { result ≡ count_of self.now }
-        ensures few { result ≤ 4294967296 }
+        ensures value { result ≡ item_count self.now }
+        ensures few { result ≤ most_items }
     {
         let [a, b, c, d] = self.lens;
         // Where the product wraps on the way, some length is 0.
@@ -122,7 +122,7 @@ impl Shape {
     /// All places; None exactly where some length is 0.
     pub fn whole(&self) -> Option<Part>
         ensures none { IsNone result ↔ Contains self.now 0 }
-        ensures empty { IsNone result ↔ (count_of self.now ≡ 0) }
+        ensures empty { IsNone result ↔ (item_count self.now ≡ 0) }
         ensures whole { IfSome result (λ part. part ≡ whole_of self.now) }
         ensures node { IfSome result (λ part. (least : ℕ) → IsNode self.now least part) }
     {
@@ -135,7 +135,7 @@ impl Shape {
 
     /// The place on each axis of the item with so many items before it.
     pub(crate) fn places_after(&self, before: u64) -> [u64; 4]
-        requires { 1 ≤ count_of self.now }
+        requires { 1 ≤ item_count self.now }
         ensures { result ≡ places_after self.now before ++ replicate (4 - length self.now) 1 }
     {
         places_after(&self.lens, before)
@@ -143,8 +143,8 @@ impl Shape {
 
     /// How many of the `len` items of a box lie left of its cut.
     pub(crate) fn left_len(&self, len: u64) -> u64
-        requires some { 1 ≤ count_of self.now }
-        requires within { len ≤ count_of self.now }
+        requires some { 1 ≤ item_count self.now }
+        requires within { len ≤ item_count self.now }
         requires many { 2 ≤ len }
         requires is_box { (before : ℕ) × IsBox self.now before len }
         ensures { result ≡ cut self.now len }
@@ -166,8 +166,8 @@ fn padded(lens: &[u64]) -> [u64; 4]
 
 /// Where there are too many items, the product of the fewest first lengths that is too large.
 fn excess(lens: &[u64]) -> Option<u128>
-    requires { All (λ len. len ≤ 4294967296) lens.now }
-    ensures { result ≡ (if nat_lt most_items (count_of lens.now) then Some (first_excess 1 lens.now) else None) }
+    requires { All (λ len. len ≤ most_items) lens.now }
+    ensures { result ≡ excess_of lens.now }
 {
     if lens.contains(&0) {
         return None;
@@ -184,7 +184,7 @@ fn excess(lens: &[u64]) -> Option<u128>
 
 /// The place on each of four axes of the item with so many items before it.
 fn places_after(lens: &[u64; 4], before: u64) -> [u64; 4]
-    requires { 1 ≤ count_of lens.now }
+    requires { 1 ≤ item_count lens.now }
     ensures { result ≡ places_after lens.now before }
 {
     let (a, before) = place_on(lens[0], before);
@@ -210,9 +210,9 @@ fn place_on(len: u64, before: u64) -> (u64, u64)
 
 /// How many of the `len` items of a box on four axes lie left of its cut.
 fn left_len(lens: &[u64; 4], len: u64) -> u64
-    requires some { 1 ≤ count_of lens.now }
-    requires few { count_of lens.now ≤ most_items }
-    requires within { len ≤ count_of lens.now }
+    requires some { 1 ≤ item_count lens.now }
+    requires few { item_count lens.now ≤ most_items }
+    requires within { len ≤ item_count lens.now }
     requires is_box { (before : ℕ) × IsBox lens.now before len }
     ensures { result ≡ cut lens.now len }
 {
@@ -222,12 +222,12 @@ fn left_len(lens: &[u64; 4], len: u64) -> u64
 
 /// How many items share one place on the slowest axis on which a box of `len` items has a window longer than one.
 fn stride(lens: &[u64; 4], len: u64) -> u64
-    requires some { 1 ≤ count_of lens.now }
-    requires few { count_of lens.now ≤ most_items }
-    requires within { len ≤ count_of lens.now }
+    requires some { 1 ≤ item_count lens.now }
+    requires few { item_count lens.now ≤ most_items }
+    requires within { len ≤ item_count lens.now }
     ensures some { 1 ≤ result }
     ensures few { result ≤ most_items }
-    ensures cut { (before : ℕ) → IsBox lens.now before len → len / result / 2 * result ≡ cut lens.now len }
+    ensures cut { IsStride lens.now len result }
 {
     let [a, b, c, _] = *lens;
     if len <= a {

@@ -51,10 +51,15 @@ returns-clause-whole c =
     let cut = fields_cut_in c.args.self.now c.self.inside.shape c.self.inside.first c.self.inside.len c.left_len-left.result c.self.invariant.0 (omega (arith, c.self.invariant.0.some, c.if-self-eq1.false)) c.left_len-left.ensures c.self.view_is in
     cut.whole
 
-pub returns-clause-cut : goal.returns-clause-cut
-returns-clause-cut c =
+pub returns-clause-cut_left : goal.returns-clause-cut_left
+returns-clause-cut_left c =
     let cut = fields_cut_in c.args.self.now c.self.inside.shape c.self.inside.first c.self.inside.len c.left_len-left.result c.self.invariant.0 (omega (arith, c.self.invariant.0.some, c.if-self-eq1.false)) c.left_len-left.ensures c.self.view_is in
-    (cut.left_is, cut.right_is)
+    cut.left_is
+
+pub returns-clause-cut_right : goal.returns-clause-cut_right
+returns-clause-cut_right c =
+    let cut = fields_cut_in c.args.self.now c.self.inside.shape c.self.inside.first c.self.inside.len c.left_len-left.result c.self.invariant.0 (omega (arith, c.self.invariant.0.some, c.if-self-eq1.false)) c.left_len-left.ensures c.self.view_is in
+    cut.right_is
 
 pub returns-clause-halves : goal.returns-clause-halves
 returns-clause-halves c =

@@ -1,5 +1,5 @@
 use Rattle.splittable.proofs.Depths.{depth_bound}
-use Rattle.splittable.proofs.laws.depth_is_at_most_24.Goals as goal
+use Rattle.splittable.proofs.laws.depths_are_bounded.Goals as goal
 
 pub returns : goal.returns
 returns c = depth_bound
