@@ -1,9 +1,9 @@
 -- Answers combined from left to right.
-use Rattle.std.proofs.Common.{◌≡◌, ℕ, ◌+◌, ◌-◌, ◌≤◌, List, [], ◌∷◌, subst, arith}
+use Rattle.std.proofs.Common.{◌≡◌, ℕ, ◌+◌, ◌-◌, ◌≤◌, subst, arith}
 use Rattle.fold_seq.specs.declared.answers.Reduced.{Reduced}
 use Rattle.fold_seq.specs.declared.answers.Reduced.TheVariants.{Going, Stopped, Faulted}
 use Rattle.fold_seq.specs.Answers.{IsStop, Combines}
-use Rattle.fold_seq.specs.Standing.{MergeStands, StopStands, StandInOrder, CombinesInOrder, items_of}
+use Rattle.fold_seq.specs.Standing.{MergeStands, StopStands}
 
 -- what stopped stands for longer stretches
 pub stop_longer : {S : Type 0} (stands : ℕ → ℕ → Reduced S → Type 0) → StopStands stands → (first n more : ℕ) (answer : Reduced S) →
@@ -19,15 +19,3 @@ pub both : {S : Type 0} (stands : ℕ → ℕ → Reduced S → Type 0) (merges 
 both stands merges law stops first n m (Going left) right whole one h k c = law first n m left right whole one h k c
 both stands merges law stops first n m (Stopped at line state) right whole one h k c = rw c (stops first n m (Stopped at line state) one tt h)
 both stands merges law stops first n m (Faulted at line kind) right whole one h k c = rw c (stops first n m (Faulted at line kind) one tt h)
-
--- and any number of them
-pub in_order : {S : Type 0} (stands : ℕ → ℕ → Reduced S → Type 0) (merges : S → S → S → Type 0) → MergeStands stands merges → StopStands stands →
-    (first n : ℕ) (before whole : Reduced S) (pieces : List (ℕ × Reduced S)) → 1 ≤ first → stands first n before → StandInOrder stands (first + n) pieces →
-    CombinesInOrder merges before pieces whole → stands first (n + items_of pieces) whole
-in_order stands merges law stops first n before whole [] one h k c = let e : n + 0 ≡ n = omega arith in rw (e, c) h
-in_order {S} stands merges law stops first n before whole (piece ∷ pieces) one h k (next, c, rest) =
-    let e : first + n + piece.0 ≡ first + (n + piece.0) = omega arith in
-    let e2 : n + piece.0 + items_of pieces ≡ n + (piece.0 + items_of pieces) = omega arith in
-    let P : ℕ → Type 0 = λ k. StandInOrder stands k pieces in
-    let Q : ℕ → Type 0 = λ k. stands first k whole in
-    subst Q e2 (in_order stands merges law stops first (n + piece.0) next whole pieces one (both stands merges law stops first n piece.0 before piece.1 next one h k.0 c) (subst P e k.1) rest)

@@ -3,6 +3,20 @@
 use Rattle.std.specs.Prelude.{◌≡◌, ℕ, ◌+◌, ◌≤◌, ◌<◌, ⊤, Option, Some, None}
 use Rattle.fold_seq.specs.declared.answers.Reduced.{Reduced}
 use Rattle.fold_seq.specs.declared.answers.Reduced.TheVariants.{Going, Stopped, Faulted}
+use Rattle.fold_seq.specs.declared.answers.End.{End}
+use Rattle.fold_seq.specs.declared.answers.End.TheVariants as ends
+
+-- the stretch ran to its end
+abbrev pub IsGoing : {S : Type 0} → Reduced S → Type 0
+IsGoing (Going _) = ⊤
+IsGoing (Stopped _ _ _) = ⊥
+IsGoing (Faulted _ _ _) = ⊥
+
+-- the stretch faulted
+abbrev pub IsFault : {S : Type 0} → Reduced S → Type 0
+IsFault (Going _) = ⊥
+IsFault (Stopped _ _ _) = ⊥
+IsFault (Faulted _ _ _) = ⊤
 
 -- the stretch did not run to its end
 abbrev pub IsStop : {S : Type 0} → Reduced S → Type 0
@@ -28,12 +42,21 @@ StopsWithin first n (Going _) = ⊤
 StopsWithin first n (Stopped at _ _) = (first ≤ at) × (at < first + n)
 StopsWithin first n (Faulted at _ _) = (first ≤ at) × (at < first + n)
 
+-- how the stretch ended: the answer without what its state holds
+abbrev pub end_of : {S : Type 0} → Reduced S → End
+end_of (Going _) = ends.Going
+end_of (Stopped at line _) = ends.Stopped at line
+end_of (Faulted at line kind) = ends.Faulted at line kind
+
 -- two answers have the same end: they are alike, but for what their states hold
 abbrev pub SameEnd : {S T : Type 0} → Reduced S → Reduced T → Type 0
-SameEnd (Going _) (Going _) = ⊤
-SameEnd (Stopped at line _) (Stopped at' line' _) = (at ≡ at') × (line ≡ line')
-SameEnd (Faulted at line kind) (Faulted at' line' kind') = (at ≡ at') × (line ≡ line') × (kind ≡ kind')
-SameEnd _ _ = ⊥
+SameEnd one other = end_of one ≡ end_of other
+
+-- the end of two neighbouring stretches: a left that stopped or faulted decides, and else the right does
+abbrev pub end_then : End → End → End
+end_then ends.Going right = right
+end_then (ends.Stopped at line) right = ends.Stopped at line
+end_then (ends.Faulted at line kind) right = ends.Faulted at line kind
 
 -- the answer is the right one, with its state replaced by a merge of the left state and it
 abbrev pub MergesInto : {S : Type 0} → (S → S → S → Type 0) → S → Reduced S → Reduced S → Type 0

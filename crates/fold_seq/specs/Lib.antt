@@ -1,2 +1,4 @@
 pub mod Answers
 pub mod Standing
+pub mod Pieces
+pub mod Laws

@@ -1,9 +1,9 @@
 -- What an answer stands for: the laws of a relation between a stretch of items and what it answers.
 -- Source: this project.
-use Rattle.std.specs.Prelude.{◌≡◌, ℕ, ◌+◌, ◌≤◌, ◌⊎◌, List, [], ◌∷◌, ⊤}
+use Rattle.std.specs.Prelude.{ℕ, ◌+◌, ◌≤◌, ◌⊎◌}
 use Rattle.fold_seq.specs.declared.answers.Reduced.{Reduced}
 use Rattle.fold_seq.specs.declared.answers.Reduced.TheVariants.{Going, Stopped}
-use Rattle.fold_seq.specs.Answers.{IsStop, StopsWithin, SameEnd, MergesInto, Combines}
+use Rattle.fold_seq.specs.Answers.{IsStop, StopsWithin, SameEnd, MergesInto}
 
 -- a unit stands for no items, at each place
 abbrev pub UnitStands : {S : Type 0} → (ℕ → ℕ → Reduced S → Type 0) → (S → Type 0) → Type 0
@@ -27,8 +27,8 @@ abbrev pub EndsAlike : {S : Type 0} → (ℕ → ℕ → Reduced S → Type 0) �
 EndsAlike {S} stands = (first n : ℕ) (one other : Reduced S) → 1 ≤ first → stands first n one → stands first n other → SameEnd one other
 
 -- the states may be merged: the left ran to its end over some stretch, and the right ran to its end or stopped right after it
-abbrev pub MayMerge : {S : Type 0} → (ℕ → ℕ → Reduced S → Type 0) → S → S → Type 0
-MayMerge stands left right = (first : ℕ) × (n : ℕ) × (m : ℕ) × (1 ≤ first) × stands first n (Going left) ×
+abbrev pub MayMergeParts : {S : Type 0} → (ℕ → ℕ → Reduced S → Type 0) → S → S → Type 0
+MayMergeParts stands left right = (first : ℕ) × (n : ℕ) × (m : ℕ) × (1 ≤ first) × stands first n (Going left) ×
     (stands (first + n) m (Going right) ⊎ ((at : ℕ) × (line : ℕ) × stands (first + n) m (Stopped at line right)))
 
 -- the answers may be combined: they stand for neighbouring stretches
@@ -38,18 +38,3 @@ MayCombine stands left right = (first : ℕ) × (n : ℕ) × (m : ℕ) × (1 ≤
 -- wherever the two answers stand for neighbouring stretches, the answer stands for both together
 abbrev pub CombinationStands : {S : Type 0} → (ℕ → ℕ → Reduced S → Type 0) → Reduced S → Reduced S → Reduced S → Type 0
 CombinationStands stands left right whole = (first n m : ℕ) → 1 ≤ first → stands first n left → stands (first + n) m right → stands first (n + m) whole
-
--- of a list of stretches next to each other, each with how many items it has and an answer, each answer stands for its stretch
-abbrev pub StandInOrder : {S : Type 0} → (ℕ → ℕ → Reduced S → Type 0) → ℕ → List (ℕ × Reduced S) → Type 0
-StandInOrder stands first [] = ⊤
-StandInOrder stands first (piece ∷ pieces) = stands first piece.0 piece.1 × StandInOrder stands (first + piece.0) pieces
-
--- how many items the stretches have together
-abbrev pub items_of : {S : Type 0} → List (ℕ × Reduced S) → ℕ
-items_of [] = 0
-items_of (piece ∷ pieces) = piece.0 + items_of pieces
-
--- the answers, combined from left to right with what comes before them, give the whole answer
-abbrev pub CombinesInOrder : {S : Type 0} → (S → S → S → Type 0) → Reduced S → List (ℕ × Reduced S) → Reduced S → Type 0
-CombinesInOrder merges before [] whole = whole ≡ before
-CombinesInOrder {S} merges before (piece ∷ pieces) whole = (next : Reduced S) × Combines merges before piece.1 next × CombinesInOrder merges next pieces whole

@@ -13,8 +13,37 @@ pub enum Reduced<S> {
     Faulted { at: u64, line: u32, kind: u8 },
 }
 
+/// How a stretch ended: what it gives, without the state.
+#[derive(Clone, Copy, Debug, PartialEq, Eq)]
+pub enum End {
+    /// The items ran to their end.
+    Going,
+    /// The item at place `at` stopped the loop.
+    Stopped { at: u64, line: u32 },
+    /// The item at place `at` faulted.
+    Faulted { at: u64, line: u32, kind: u8 },
+}
+
 impl<S> Reduced<S> {
-    ghost use Rattle.fold_seq.specs.Answers.{stop_place_of};
+    ghost use Rattle.fold_seq.specs.Answers.{stop_place_of, end_of};
+
+    /// How the stretch ended.
+    pub fn end(&self) -> End
+        ensures { result ≡ end_of self.now }
+    {
+        match self {
+            Reduced::Going(_) => End::Going,
+            Reduced::Stopped { at, line, .. } => End::Stopped {
+                at: *at,
+                line: *line,
+            },
+            Reduced::Faulted { at, line, kind } => End::Faulted {
+                at: *at,
+                line: *line,
+                kind: *kind,
+            },
+        }
+    }
 
     /// The place of the item that stopped or faulted, if one did.
     pub fn stop_place(&self) -> Option<u64>

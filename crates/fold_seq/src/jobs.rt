@@ -3,7 +3,7 @@
 ghost use Rattle.std.specs.Prelude.{◌≡◌, ℕ, List, IfOk};
 ghost use Rattle.splittable.specs.Nodes.{IsNode};
 ghost use Rattle.fold_seq.specs.declared.answers.Reduced.{Reduced};
-ghost use Rattle.fold_seq.specs.Standing.{UnitStands, MergeStands, StopStands, StopLies, EndsAlike, MayMerge};
+ghost use Rattle.fold_seq.specs.Standing.{UnitStands, MergeStands, StopStands, StopLies, EndsAlike, MayMergeParts};
 
 use super::answers::Reduced;
 use no_memory::NoMemory;
@@ -50,7 +50,7 @@ pub trait Job {
         left: Self::State,
         right: Self::State,
     ) -> Result<Self::State, NoMemory>
-        requires { MayMerge (stands self.now) left right }
+        requires { MayMergeParts (stands self.now) left right }
         ensures { IfOk result (merges self.now left right) };
 
     /// A unit stands for no items, at each place.

@@ -10,6 +10,6 @@ mod folds;
 mod jobs;
 pub mod laws;
 
-pub use answers::Reduced;
+pub use answers::{End, Reduced};
 pub use folds::{combine, fold_seq};
 pub use jobs::Job;

@@ -36,9 +36,10 @@ pub record IsPart (part : Stretch) : Type 0 where
   pub within : part.first + part.len ≤ item_count part.lens + 1
   pub box : IsBox part.lens (part.first - 1) part.len
 
--- a part of a shape with few enough items
-abbrev pub IsSmallPart : Stretch → Type 0
-IsSmallPart part = IsPart part × (item_count part.lens ≤ most_items)
+-- so many places from the first on are a part of a shape of these lengths, which has few enough items
+abbrev pub IsSmallPart : List ℕ → ℕ → ℕ → Type 0
+IsSmallPart lens first len =
+    IsPart (record { lens = lens; first = first; len = len }) × (item_count lens ≤ most_items)
 
 -- how many of the n items of a box lie left of its cut, by the lengths alone
 abbrev pub cut : List ℕ → ℕ → ℕ

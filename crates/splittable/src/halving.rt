@@ -21,5 +21,5 @@ pub trait Splittable: Sized {
         ensures none { IsNone result ↔ (length (items self.now) ≤ 1) }
         ensures left { IfSome result (λ halves. 0 < length (items halves.0)) }
         ensures right { IfSome result (λ halves. 0 < length (items halves.1)) }
-        ensures whole { IfSome result (λ halves. items halves.0 ++ items halves.1 ≡ items self.now) };
+        ensures whole { IfSome result (λ h. items h.0 ++ items h.1 ≡ items self.now) };
 }

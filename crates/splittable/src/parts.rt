@@ -28,7 +28,7 @@ impl Model for Part {
 
     ghost view = { λ p. record { lens = p.shape; first = p.first; len = p.len } };
 
-    ghost invariant = { λ p. IsSmallPart (record { lens = p.shape; first = p.first; len = p.len }) };
+    ghost invariant = { λ p. IsSmallPart p.shape p.first p.len };
 
     ghost inverse = { λ s. record { shape = s.lens; first = s.first; len = s.len } };
 }
@@ -107,7 +107,7 @@ impl Splittable for Part {
         ensures none { IsNone result ↔ (length (part_places self.now) ≤ 1) }
         ensures left { IfSome result (λ halves. 0 < length (part_places halves.0)) }
         ensures right { IfSome result (λ halves. 0 < length (part_places halves.1)) }
-        ensures whole { IfSome result (λ halves. part_places halves.0 ++ part_places halves.1 ≡ part_places self.now) }
+        ensures whole { IfSome result (λ h. part_places h.0 ++ part_places h.1 ≡ part_places self.now) }
 
         ensures one { IsNone result ↔ (self.now.len ≡ 1) }
         ensures cut_left { IfSome result (λ halves. halves.0 ≡ left_half self.now) }
