@@ -1,4 +1,6 @@
 ghost use Rattle.std.specs.Prelude.{◌≡◌, IfOk};
+ghost use Rattle.std.specs.Borrow.{Lends, sem};
+ghost use Rattle.loop_data.specs.contracts.boxed.Boxed.{the_row};
 
 use no_memory::NoMemory;
 use std::alloc::Global;
@@ -11,6 +13,8 @@ pub struct Boxed<T> {
 }
 
 impl<T> Model for Boxed<T> {
+    ghost use Rattle.std.specs.Prelude.{◌≡◌};
+
     ghost Value = { T };
 
     ghost coded = { T.code };
@@ -24,6 +28,14 @@ impl<T> Boxed<T> {
         ensures { result.now ≡ self.now }
     {
         &self.held
+    }
+
+    /// The value, to change. It takes no memory.
+    pub fn get_mut(&mut self) -> &mut T
+        ensures* writes_back { sem 𝓛 (Lends (the_row T.row) T.row self.entry result (λ w. w)) }
+        ensures held { result.now ≡ self.old }
+    {
+        &mut self.held
     }
 
     /// The value, taken out of its box. It takes no memory.

@@ -7,6 +7,7 @@
 mod boxed;
 mod expr;
 mod head;
+pub mod laws;
 mod many;
 mod statement;
 mod text;

@@ -1,5 +1,6 @@
-ghost use Rattle.std.specs.Prelude.{◌≡◌, ◌++◌, IfOk, IsUtf8};
+ghost use Rattle.std.specs.Prelude.{◌≡◌, ◌+◌, ◌≤◌, ◌++◌, length, IsOk, IfOk, IsUtf8};
 ghost use Rattle.std.specs.Fmt.{signed_decimal};
+ghost use Rattle.loop_data.specs.ShortTexts.{short_limit};
 
 use crate::CopyIn;
 use arrayvec::ArrayString;
@@ -38,7 +39,8 @@ impl Model for TextValue {
 impl TextValue {
     /// Holds a text. Refused only for want of memory, of which a text of up to 23 bytes takes none.
     pub fn new(alloc: Global, text: &str) -> Result<TextValue, NoMemory>
-        ensures { IfOk result (λ t. t ≡ text.now) }
+        ensures text { IfOk result (λ t. t ≡ text.now) }
+        ensures short { length text.now ≤ short_limit → IsOk result }
     {
         let held = match ArrayString::from(text) {
             Ok(short) => Held::Short(short),
@@ -58,23 +60,33 @@ impl TextValue {
         }
     }
 
-    /// The same text once more. Refused only for want of memory.
+    /// The same text once more. Refused only for want of memory, of which a text of up to 23 bytes takes none.
     pub fn copy(&self, alloc: Global) -> Result<TextValue, NoMemory>
-        ensures { IfOk result (λ t. t ≡ self.now) }
+        ensures text { IfOk result (λ t. t ≡ self.now) }
+        ensures short { length self.now ≤ short_limit → IsOk result }
     {
-        TextValue::new(alloc, self.as_str())
+        match &self.held {
+            Held::Short(short) => Ok(TextValue {
+                held: Held::Short(*short),
+            }),
+            Held::Long(long) => TextValue::new(alloc, long.as_str()),
+        }
     }
 
-    /// The decimal text of a number, with `-` where it is negative. Refused only for want of memory.
+    /// The decimal text of a number, with `-` where it is negative. It takes no memory and is never refused, as it has at
+    /// most 20 bytes.
     pub fn from_int(alloc: Global, n: i64) -> Result<TextValue, NoMemory>
-        ensures { IfOk result (λ t. t ≡ signed_decimal n) }
+        ensures text { IfOk result (λ t. t ≡ signed_decimal n) }
+        ensures given { IsOk result }
     {
         TextValue::new(alloc, Buffer::new().format(n))
     }
 
-    /// The left text followed by the right one. Refused only for want of memory.
+    /// The left text followed by the right one. Refused only for want of memory, of which both together take none where they
+    /// have up to 23 bytes, and else one block.
     pub fn joined(alloc: Global, left: &str, right: &str) -> Result<TextValue, NoMemory>
-        ensures { IfOk result (λ t. t ≡ left.now ++ right.now) }
+        ensures text { IfOk result (λ t. t ≡ left.now ++ right.now) }
+        ensures short { length left.now + length right.now ≤ short_limit → IsOk result }
     {
         if left.len() <= SHORT && right.len() <= SHORT - left.len() {
             let mut short = ArrayString::new();
@@ -84,7 +96,8 @@ impl TextValue {
                 held: Held::Short(short),
             });
         }
-        let mut long = String::from_str(alloc, left)?;
+        let mut long = String::with_capacity(alloc, left.len() + right.len())?;
+        long.push_str(left)?;
         long.push_str(right)?;
         Ok(TextValue {
             held: Held::Long(long),
