@@ -6,3 +6,4 @@ pub mod ValueOrder
 pub mod ValueParts
 pub mod ValueTexts
 pub mod formers
+pub mod ValueOrder

@@ -3,16 +3,18 @@ use Rattle.std.proofs.Common.{◌≡◌, ℕ, List, [], ◌∷◌, map, length, 
 use Rattle.std.specs.List.{list_any, list_all}
 use Rattle.std.specs.Fmt.{signed_decimal}
 use Rattle.std.specs.Int.{w64, int_wrap}
+use Rattle.std.specs.Ordering.{int_cmp, nat_cmp}
+use Rattle.std.specs.Cmp.Lexicographic.{slice_cmp}
 use Rattle.loop_data.specs.declared.value.Value.{Value, the_lemmas as value_lemmas}
 use Rattle.loop_data.specs.declared.value.Value.TheVariants as value
 use Rattle.loop_data.specs.declared.tower.Kind.{Kind, the_lemmas as kind_lemmas}
 use Rattle.loop_data.specs.declared.tower.Kind.TheVariants as kind
+use Rattle.loop_data.specs.ValueOrder.{value_cmp}
 use Rattle.loop_data.specs.ValueParts.{as_int, as_bool, left_of, right_of}
 use Rattle.loop_data.specs.ValueTexts.{value_text}
-use Rattle.loop_results.specs.Extremes.{least_of, greatest_of}
-use Rattle.loop_results.specs.Groups.{keys_of}
+use Rattle.loop_results.specs.Ends.{first_of, last_of}
 use Rattle.loop_results.specs.Results as result
-use Rattle.loop_results.specs.Results.{result_of, sum_of}
+use Rattle.loop_results.specs.Results.{result_of, sum_of, least_of, greatest_of, least_at, greatest_at, value_at_place, input_at_key}
 use Rattle.loop_results.specs.ResultTexts.{result_text}
 
 module _ (inputs : List Value) where
@@ -31,16 +33,16 @@ module _ (inputs : List Value) where
   pub result_of-Greatest : result_of kind.Greatest inputs ≡ result.found (greatest_of inputs)
   result_of-Greatest = search (rules, kind_lemmas)
 
-  pub result_of-LeastAt : result_of kind.LeastAt inputs ≡ result.at_least_place (least_of (map left_of inputs)) inputs
+  pub result_of-LeastAt : result_of kind.LeastAt inputs ≡ result.found_at (least_at (map value_at_place inputs))
   result_of-LeastAt = search (rules, kind_lemmas)
 
-  pub result_of-GreatestAt : result_of kind.GreatestAt inputs ≡ result.at_least_place (greatest_of (map left_of inputs)) inputs
+  pub result_of-GreatestAt : result_of kind.GreatestAt inputs ≡ result.found_at (greatest_at (map value_at_place inputs))
   result_of-GreatestAt = search (rules, kind_lemmas)
 
-  pub result_of-First : result_of kind.First inputs ≡ result.found (result.first_of inputs)
+  pub result_of-First : result_of kind.First inputs ≡ result.found (first_of inputs)
   result_of-First = search (rules, kind_lemmas)
 
-  pub result_of-Last : result_of kind.Last inputs ≡ result.found (result.last_of inputs)
+  pub result_of-Last : result_of kind.Last inputs ≡ result.found (last_of inputs)
   result_of-Last = search (rules, kind_lemmas)
 
   pub result_of-Any : result_of kind.Any inputs ≡ result.truth (list_any as_bool inputs)
@@ -52,7 +54,7 @@ module _ (inputs : List Value) where
   pub result_of-Listed : result_of kind.Listed inputs ≡ result.listed inputs
   result_of-Listed = search (rules, kind_lemmas)
 
-  pub result_of-Grouped : (inner : Kind) → result_of (kind.Grouped inner) inputs ≡ result.grouped (result.results_under (result_of inner) (keys_of inputs) inputs)
+  pub result_of-Grouped : (inner : Kind) → result_of (kind.Grouped inner) inputs ≡ result.grouped (result.results_by_key (result_of inner) (map input_at_key inputs))
   result_of-Grouped inner = search (rules, kind_lemmas)
 
   pub result_of-Both : (l r : Kind) → result_of (kind.Both l r) inputs ≡ result.both (result_of l (map left_of inputs)) (result_of r (map right_of inputs))
@@ -74,3 +76,11 @@ value_text-Int n = search (rules, value_lemmas)
 
 pub value_text-Text : (t : List ℕ) → value_text (value.Text t) ≡ t
 value_text-Text t = search (rules, value_lemmas)
+
+-- ---- the order of numbers and texts
+
+pub value_cmp-Int : (a b : ℤ) → value_cmp (value.Int a) (value.Int b) ≡ int_cmp a b
+value_cmp-Int a b = search (rules, value_lemmas)
+
+pub value_cmp-Text : (a b : List ℕ) → value_cmp (value.Text a) (value.Text b) ≡ slice_cmp nat_cmp a b
+value_cmp-Text a b = search (rules, value_lemmas)

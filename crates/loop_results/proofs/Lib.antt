@@ -1,2 +1,3 @@
+pub mod ExtremeLemmas
+pub mod KeyLemmas
 pub mod Layers
-pub mod WorkedResults

@@ -1,50 +1,44 @@
--- The least and the greatest of a list of values, and the least place where such an extreme stands.
--- Source: this project. Every Int counts as smaller than every Text; in a legal loop the inputs of a name are of one kind.
-use Rattle.std.specs.Prelude.{Bool, true, false, if◌then◌else◌, List, [], ◌∷◌, map, filter, Option, Some, None, ℤ, pos, int_lt}
-use Rattle.std.specs.Ordering.{is_lt, nat_cmp}
-use Rattle.std.specs.Int.{int_min}
-use Rattle.std.specs.Cmp.Lexicographic.{slice_cmp}
-use Rattle.loop_data.specs.declared.value.Value.{Value}
-use Rattle.loop_data.specs.declared.value.Value.TheVariants.{Int, Text}
-use Rattle.loop_data.specs.ValueParts.{as_int, is_equal, left_of, right_of}
+-- The extreme of a list under an order: which of two inputs beats the other, and the first input that no other beats.
+-- Source: this project; of equals the first is kept, as by a loop from left to right that replaces only what is beaten.
+use Rattle.std.specs.Prelude.{◌≡◌, Bool, true, false, if◌then◌else◌, List, [], ◌∷◌, ◌++◌, All, Contains, Option, Some, None}
+use Rattle.std.specs.Ordering.{is_lt, ordering_then}
+use Rattle.std.specs.declared.cmp.Ordering.{Ordering}
 
--- texts by their bytes, and each Int before each Text
-abbrev pub is_smaller : Value → Value → Bool
-is_smaller (Int a) (Int b) = int_lt a b
-is_smaller (Int a) (Text b) = true
-is_smaller (Text a) (Text b) = is_lt (slice_cmp nat_cmp a b)
-is_smaller _ _ = false
+-- the input, unless the best of those after it beats it
+abbrev pub or_better : {T : Type 0} → (T → T → Bool) → T → Option T → T
+or_better beats x None = x
+or_better beats x (Some y) = if beats y x then y else x
 
--- the value, unless there is one that is smaller
-abbrev pub or_smaller : Value → Option Value → Value
-or_smaller x None = x
-or_smaller x (Some y) = if is_smaller y x then y else x
+-- the first of the inputs that no input beats, or none where there are none
+abbrev pub best_of : {T : Type 0} → (T → T → Bool) → List T → Option T
+best_of beats [] = None
+best_of beats (x ∷ xs) = Some (or_better beats x (best_of beats xs))
 
-abbrev pub or_greater : Value → Option Value → Value
-or_greater x None = x
-or_greater x (Some y) = if is_smaller x y then y else x
+-- said of where it stands: it beats each input before it, and none after it beats it
+abbrev pub IsFirstExtreme : {T : Type 0} → (T → T → Bool) → Option T → List T → Type 0
+IsFirstExtreme beats None xs = xs ≡ []
+IsFirstExtreme {T} beats (Some x) xs = (before : List T) × (after : List T) × (xs ≡ before ++ x ∷ after) ×
+    All (λ y. beats x y ≡ true) before × All (λ y. beats y x ≡ false) after
 
--- the smallest of the values, or none where there are none
-abbrev pub least_of : List Value → Option Value
-least_of [] = None
-least_of (x ∷ xs) = Some (or_smaller x (least_of xs))
+-- it is an input that none beats, and there is none exactly where there are no inputs
+abbrev pub IsUnbeaten : {T : Type 0} → (T → T → Bool) → Option T → List T → Type 0
+IsUnbeaten beats None xs = xs ≡ []
+IsUnbeaten beats (Some x) xs = Contains xs x × All (λ y. beats y x ≡ false) xs
 
--- the largest of the values, or none where there are none
-abbrev pub greatest_of : List Value → Option Value
-greatest_of [] = None
-greatest_of (x ∷ xs) = Some (or_greater x (greatest_of xs))
+-- ---- the orders
 
--- ---- the least place of an extreme
+-- the smaller beats
+abbrev pub is_smaller : {T : Type 0} → (T → T → Ordering) → T → T → Bool
+is_smaller cmp x y = is_lt (cmp x y)
 
-abbrev pub or_less : ℤ → Option ℤ → ℤ
-or_less n None = n
-or_less n (Some m) = int_min n m
+-- the greater beats
+abbrev pub is_greater : {T : Type 0} → (T → T → Ordering) → T → T → Bool
+is_greater cmp x y = is_lt (cmp y x)
 
--- the least of the numbers, or none where there are none
-abbrev pub least_number : List ℤ → Option ℤ
-least_number [] = None
-least_number (n ∷ ns) = Some (or_less n (least_number ns))
+-- of values with their places the smaller value beats, and of equal values the one at the lesser place
+abbrev pub is_smaller_at : {T P : Type 0} → (T → T → Ordering) → (P → P → Ordering) → T × P → T × P → Bool
+is_smaller_at cmp places x y = is_lt (ordering_then (cmp x.0 y.0) (places x.1 y.1))
 
--- of inputs that are pairs of a value and a place, the places where the value stands
-abbrev pub places_of : Value → List Value → List ℤ
-places_of x inputs = map (λ i. as_int (right_of i)) (filter (λ i. is_equal x (left_of i)) inputs)
+-- of values with their places the greater value beats, and of equal values the one at the lesser place
+abbrev pub is_greater_at : {T P : Type 0} → (T → T → Ordering) → (P → P → Ordering) → T × P → T × P → Bool
+is_greater_at cmp places x y = is_lt (ordering_then (cmp y.0 x.0) (places x.1 y.1))

@@ -11,16 +11,16 @@ abbrev pub found_text : Option Value → List ℕ
 found_text (Some x) = value_text x
 found_text None = codes "nothing"
 
-abbrev pub found_at_text : Option Value → Option ℤ → List ℕ
-found_at_text (Some x) (Some p) = value_text x ++ codes " at " ++ signed_decimal p
-found_at_text _ _ = codes "nothing"
+abbrev pub found_at_text : Option (Value × ℤ) → List ℕ
+found_at_text (Some x) = value_text x.0 ++ codes " at " ++ signed_decimal x.1
+found_at_text None = codes "nothing"
 
 abbrev mutual
   pub text_of_result : TowerResult → List ℕ
   text_of_result (number n) = signed_decimal n
   text_of_result (truth b) = if b then codes "true" else codes "false"
   text_of_result (found x) = found_text x
-  text_of_result (found_at x p) = found_at_text x p
+  text_of_result (found_at x) = found_at_text x
   text_of_result (listed xs) = codes "[" ++ separated (map value_text xs) ++ codes "]"
   text_of_result (grouped gs) = codes "{" ++ separated (group_texts gs) ++ codes "}"
   text_of_result (both l r) = codes "(" ++ separated (text_of_result l ∷ text_of_result r ∷ []) ++ codes ")"

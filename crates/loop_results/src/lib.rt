@@ -1,5 +1,7 @@
-//! What the inputs of a tower come to, and its text: definitions alone, over the whole list of inputs.
+//! What the inputs of a tower come to, and its text: definitions over the whole list of inputs, and their laws.
 //!
-//! They stand in specs/: the extremes of values (Extremes), inputs by their keys (Groups), `result_of` (Results) and
-//! `result_text` (ResultTexts).
+//! The definitions stand in specs/: the first and last of a list (Ends), extremes under an order (Extremes), inputs by their keys
+//! (Groups), `result_of` (Results) and `result_text` (ResultTexts). No code holds a list of inputs to compute them.
 #![tactic(auto)]
+
+pub mod laws;

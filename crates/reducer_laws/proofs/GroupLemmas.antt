@@ -18,7 +18,8 @@ use Rattle.std.specs.Str.{bytes_eq}
 use Rattle.std.specs.BTreeMap.{BTreeMap, Updates, is_at}
 use Rattle.std.specs.Map.{lookup, keys_of}
 use Rattle.reducer_laws.specs.Standing.{MayTake, MayMerge, TakesNext, TakesTogether}
-use Rattle.reducer_laws.specs.Groups.{inputs_under, state_at, KeysRise, StandsWhere, GroupsStand, MayMergeInto, TogetherWhere, GroupsTogether}
+use Rattle.loop_results.specs.Groups.{inputs_under}
+use Rattle.reducer_laws.specs.Groups.{state_at, KeysRise, StandsWhere, GroupsStand, MayMergeInto, TogetherWhere, GroupsTogether}
 
 -- ---- keys
 pub same_key : (q k : List ℕ) → bytes_eq q k ≡ true → q ≡ k
@@ -27,7 +28,7 @@ same_key q k e = search (rules, bytes_eq-Decides q k)
 pub key_itself : (q : List ℕ) → bytes_eq q q ≡ true
 key_itself q = search (rules, bytes_eq-Decides q q)
 
-flipped : (q k : List ℕ) (b : Bool) → bytes_eq q k ≡ b → bytes_eq k q ≡ b
+pub flipped : (q k : List ℕ) (b : Bool) → bytes_eq q k ≡ b → bytes_eq k q ≡ b
 flipped q k true e = let s = same_key q k e in subst (λ z. bytes_eq k z ≡ true) (sym s) (key_itself k)
 flipped q k false e =
     elim (bytes_eq k q) as (λ b. bytes_eq k q ≡ b → b ≡ false) [
@@ -45,8 +46,17 @@ module _ {S : Type 0} where
   found q (e ∷ es) = λ i. cond (sym (is_eq-slice_cmp q e.0) i) (Some e.1) (found q es i)
 
   -- what a write at one key changes
-  pub updated : (m n : BTreeMap (List ℕ) S) (k : List ℕ) (w : S) → Updates (slice_cmp nat_cmp) m n k (Some w) → (q : List ℕ) → state_at q n.entries ≡ cond (bytes_eq k q) (Some w) (state_at q m.entries)
-  updated m n k w u q = found q n.entries ∙ u.0 q ∙ (λ i. cond (is_eq-slice_cmp k q i) (Some w) (sym (found q m.entries) i))
+  pub updated : (m n : BTreeMap (List ℕ) S) (k : List ℕ) (w : Option S) → Updates (slice_cmp nat_cmp) m n k w → (q : List ℕ) → state_at q n.entries ≡ cond (bytes_eq k q) w (state_at q m.entries)
+  updated m n k w u q = found q n.entries ∙ u.0 q ∙ (λ i. cond (is_eq-slice_cmp k q i) w (sym (found q m.entries) i))
+
+  cond_twice : (b : Bool) (x y z : Option S) → cond b x (cond b y z) ≡ cond b x z
+  cond_twice true x y z = refl
+  cond_twice false x y z = refl
+
+  -- and what a write changes where the key was taken out before
+  pub replaced : (m h n : BTreeMap (List ℕ) S) (k : List ℕ) (w : Option S) → Updates (slice_cmp nat_cmp) m h k None → Updates (slice_cmp nat_cmp) h n k w → (q : List ℕ) → state_at q n.entries ≡ cond (bytes_eq k q) w (state_at q m.entries)
+  replaced m h n k w t u q =
+      updated h n k w u q ∙ ap (λ o. cond (bytes_eq k q) w o) (updated m h k None t q) ∙ cond_twice (bytes_eq k q) w None (state_at q m.entries)
 
   -- what a look-up finds in a list of one
   one_found : (q k : List ℕ) (w : S) → state_at q ((k, w) ∷ []) ≡ cond (bytes_eq q k) (Some w) None
@@ -225,6 +235,10 @@ module _ {S I : Type 0} (stands : S → List I → Type 0) where
 
   pub put_none : (ls rs : List (List ℕ × S)) → MayMerge (GroupsStand stands) ls rs → GroupsTogether stands ls [] ls
   put_none ls rs (xs, ys, g, h, le) = record { rising = g.rising; each = λ q. nothing (state_at q ls) }
+
+  -- before no groups all stays
+  pub no_left : (ls rs : List (List ℕ × S)) → ls ≡ [] → MayMerge (GroupsStand stands) ls rs → TakesTogether (GroupsStand stands) ls rs rs
+  no_left ls rs e (xs, ys, g, h, le) = groups_together ls rs rs (rw e (record { rising = h.rising; each = λ q. refl }))
 
   into_where : (before : Option S) (after : S) (xs ys : List I) → StandsWhere stands before xs → stands after ys → length xs + length ys ≤ 2 ^ 62 → MayMergeInto stands before after
   into_where None after xs ys g h le = tt

@@ -1,18 +1,7 @@
--- What the states of `FirstOf`, `LastOf`, `AnyOf`, `AllOf` and `Both` say of the list of their inputs.
+-- What the states of `AnyOf`, `AllOf` and `Both` say of the list of their inputs.
 -- Source: this project.
-use Rattle.std.specs.Prelude.{◌≡◌, Bool, List, [], ◌∷◌, map, Option, Some, None}
+use Rattle.std.specs.Prelude.{◌≡◌, Bool, List, map}
 use Rattle.std.specs.List.{list_any, list_all}
-
--- the first of a list, or none where it is empty
-abbrev pub first_in : {T : Type 0} → List T → Option T
-first_in [] = None
-first_in (x ∷ _) = Some x
-
--- the last of a list, or none where it is empty
-abbrev pub last_in : {T : Type 0} → List T → Option T
-last_in [] = None
-last_in (x ∷ []) = Some x
-last_in (_ ∷ y ∷ xs) = last_in (y ∷ xs)
 
 -- the state says whether any of the inputs is true
 abbrev pub IsAny : Bool → List Bool → Type 0

@@ -1,6 +1,6 @@
 pub mod Ends
-pub mod Extremes
 pub mod Groups
+pub mod Laws
 pub mod Numbers
-pub mod OrderLaws
 pub mod Standing
+pub mod formers

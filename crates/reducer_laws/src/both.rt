@@ -37,6 +37,8 @@ impl<A: Reducer, B: Reducer> Reducer for Both<A, B> {
 
     ghost is_free = { λ both. A.is_free both.left × B.is_free both.right };
 
+    ghost unit_is_free = { λ both. A.unit_is_free both.left × B.unit_is_free both.right };
+
     fn unit(&self, alloc: Global) -> Result<(A::State, B::State), NoMemory> {
         Ok((self.left.unit(alloc)?, self.right.unit(alloc)?))
     }

@@ -1,7 +1,7 @@
 //! The first and the last input.
 
 ghost use Rattle.std.specs.Prelude.{◌≡◌};
-ghost use Rattle.reducer_laws.specs.Ends.{first_in, last_in};
+ghost use Rattle.loop_results.specs.Ends.{first_of, last_of};
 
 use crate::Reducer;
 use no_memory::NoMemory;
@@ -26,11 +26,13 @@ impl<T: Drop> Reducer for FirstOf<T> {
 
     type State = Option<T>;
 
-    ghost stands = { λ _ state xs. state ≡ first_in xs };
+    ghost stands = { λ _ state xs. state ≡ first_of xs };
 
     ghost accepts = { λ _ _. Unit {0} };
 
     ghost is_free = { λ _. Unit {0} };
+
+    ghost unit_is_free = { λ _. Unit {0} };
 
     fn unit(&self, _alloc: Global) -> Result<Option<T>, NoMemory> {
         Ok(None)
@@ -71,11 +73,13 @@ impl<T: Drop> Reducer for LastOf<T> {
 
     type State = Option<T>;
 
-    ghost stands = { λ _ state xs. state ≡ last_in xs };
+    ghost stands = { λ _ state xs. state ≡ last_of xs };
 
     ghost accepts = { λ _ _. Unit {0} };
 
     ghost is_free = { λ _. Unit {0} };
+
+    ghost unit_is_free = { λ _. Unit {0} };
 
     fn unit(&self, _alloc: Global) -> Result<Option<T>, NoMemory> {
         Ok(None)

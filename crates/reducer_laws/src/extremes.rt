@@ -1,7 +1,7 @@
 //! The extreme of the inputs under an order.
 
 ghost use Rattle.std.specs.Prelude.{◌≡◌};
-ghost use Rattle.reducer_laws.specs.Extremes.{IsFirstExtreme};
+ghost use Rattle.loop_results.specs.Extremes.{IsFirstExtreme};
 
 use crate::Reducer;
 use crate::orders::{Greater, GreaterAt, Preference, Smaller, SmallerAt};
@@ -44,6 +44,8 @@ impl<P: Preference> Reducer for Best<P> {
     ghost accepts = { λ _ _. Unit {0} };
 
     ghost is_free = { λ _. Unit {0} };
+
+    ghost unit_is_free = { λ _. Unit {0} };
 
     fn unit(&self, _alloc: Global) -> Result<Option<P::Of>, NoMemory> {
         Ok(None)

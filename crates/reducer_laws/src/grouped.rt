@@ -1,21 +1,24 @@
 //! Inputs by their keys.
 
-ghost use Rattle.std.specs.Prelude.{◌≡◌, ◌↔◌, ℕ, List, [], ◌∷◌, length, IsTrue, IfOk, OnOk};
-ghost use Rattle.std.specs.Option.{option_copied};
+ghost use Rattle.std.specs.Prelude.{◌≡◌, ◌≢◌, ◌↔◌, ℕ, List, [], ◌∷◌, length, IsTrue, IsOk, None, Some, Ok, IfOk, OnOk};
+ghost use Rattle.std.specs.Borrow.{LendsSo, sem};
+ghost use Rattle.std.specs.Option.{option_copied, option_copied_mut};
+ghost use Rattle.reducer_laws.specs.contracts.grouped.Groups.{the_row};
 ghost use Rattle.std.specs.Map.Iter.{ShowsInOrder, deref_pair};
-ghost use Rattle.reducer_laws.specs.Groups.{KeysRise, GroupsStand, GroupsTogether, MayMergeInto, state_at};
-ghost use Rattle.reducer_laws.specs.Standing.{MayTake, MayMerge, TakesNext, TakesTogether};
+ghost use Rattle.reducer_laws.specs.Groups.{KeysRise, GroupsStand, GroupsTakeNext, GroupsTakeTogether, GroupsTogether};
+ghost use Rattle.reducer_laws.specs.Groups.{HoldsAt, MayMergeInto, TogetherWhere, Writes, state_at};
+ghost use Rattle.reducer_laws.specs.Standing.{MayTake, MayMerge};
 
 use crate::Reducer;
 use loop_data::TextValue;
 use no_memory::NoMemory;
 use std::alloc::Global;
 use std::collections::BTreeMap;
-use std::collections::btree_map::Iter;
+use std::collections::btree_map::{IntoIter, Iter};
 use std::marker::Model;
-use std::mem::replace;
 
-/// States by their keys, which contracts see as the list of both by rising bytes of the keys.
+/// States by their keys, which contracts see as the list of both by rising bytes of the keys. A state may hold groups of its
+/// own kind.
 #[derive(Drop)]
 pub struct Groups<S> {
     tree: BTreeMap<TextValue, S>,
@@ -63,6 +66,15 @@ impl<S> Groups<S> {
         self.tree.get(key)
     }
 
+    /// The state of a key, to change, if it has one. What is written there is the key's state, and all else stays.
+    pub fn get_mut(&mut self, key: &TextValue) -> Option<&mut S>
+        ensures* writes_back { sem 𝓛 (LendsSo (the_row S.row) S.row self.entry result
+            (Writes key.now self.old result) (λ groups. groups ≡ self.old)) }
+        ensures value { option_copied_mut result ≡ state_at key.now self.old }
+    {
+        self.tree.get_mut(key)
+    }
+
     /// The keys with their states, by rising bytes of the keys.
     pub fn iter(&self) -> Iter<'_, TextValue, S>
         ensures rest { result ≡ self.now }
@@ -70,6 +82,65 @@ impl<S> Groups<S> {
         ensures runs { ShowsInOrder (deref_pair {K = List ℕ} {X = S}) }
     {
         self.tree.iter()
+    }
+}
+
+impl<S: Drop> Groups<S> {
+    /// The keys with their states, by rising bytes of the keys, moved out.
+    pub fn into_entries(self) -> IntoIter<TextValue, S, Global>
+        ensures rest { result ≡ self }
+        ensures rising { KeysRise self }
+    {
+        self.tree.into_iter()
+    }
+
+    /// Puts a state at a key, in place of the one that stood there. A refusal is want of memory, and comes only for a new key.
+    pub fn insert(&mut self, key: TextValue, state: S) -> Result<(), NoMemory>
+        ensures holds { OnOk result (HoldsAt key state self.old self.new) }
+        ensures free { state_at key self.old ≢ None → IsOk result }
+    {
+        self.tree.insert(key, state)?;
+        Ok(())
+    }
+
+    /// Takes one more input of a key, by the inner reducer, after the inputs that the groups stand for. Where the key is there,
+    /// its state takes the input in its place, and no memory is taken but the inner reducer's. After `NoMemory` the groups
+    /// stand for no list and can only be dropped.
+    pub fn take<R: Reducer<State = S>>(
+        &mut self,
+        alloc: Global,
+        inner: &R,
+        key: TextValue,
+        input: R::Input,
+    ) -> Result<(), NoMemory>
+        requires room { MayTake (GroupsStand (R.stands inner.now)) self.old }
+        requires accepts { R.accepts inner.now input }
+        ensures stands { OnOk result (GroupsTakeNext (R.stands inner.now)
+            self.old key input self.new) }
+        ensures free { R.is_free inner.now → state_at key self.old ≢ None → IsOk result }
+    {
+        next_under(alloc, inner, &mut self.tree, key, input)
+    }
+
+    /// Puts the right's groups after the left's, the states of a key merged by the inner reducer. Each state is moved. After
+    /// `NoMemory` both are given up.
+    pub fn merge<R: Reducer<State = S>>(
+        alloc: Global,
+        inner: &R,
+        left: Groups<S>,
+        right: Groups<S>,
+    ) -> Result<Groups<S>, NoMemory>
+        requires { MayMerge (GroupsStand (R.stands inner.now)) left right }
+        ensures stands { IfOk result (GroupsTakeTogether (R.stands inner.now) left right) }
+        ensures empty_left { left ≡ [] → result ≡ Ok right }
+    {
+        if left.is_empty() {
+            return Ok(right);
+        }
+        let Groups { tree: left } = left;
+        let Groups { tree: right } = right;
+        let tree = merge_trees(alloc, inner, left, right)?;
+        Ok(Groups { tree })
     }
 }
 
@@ -100,6 +171,8 @@ impl<R: Reducer> Reducer for Grouped<R> {
 
     ghost is_free = { λ _. ⊥ };
 
+    ghost unit_is_free = { λ _. Unit {0} };
+
     fn unit(&self, alloc: Global) -> Result<Groups<R::State>, NoMemory> {
         Ok(Groups::new(alloc))
     }
@@ -111,7 +184,7 @@ impl<R: Reducer> Reducer for Grouped<R> {
         input: (TextValue, R::Input),
     ) -> Result<(), NoMemory> {
         let (key, input) = input;
-        next_under(alloc, &self.inner, &mut state.tree, key, input)
+        state.take(alloc, &self.inner, key, input)
     }
 
     fn merge(
@@ -120,10 +193,7 @@ impl<R: Reducer> Reducer for Grouped<R> {
         left: Groups<R::State>,
         right: Groups<R::State>,
     ) -> Result<Groups<R::State>, NoMemory> {
-        let Groups { tree: left } = left;
-        let Groups { tree: right } = right;
-        let tree = merge_trees(alloc, &self.inner, left, right)?;
-        Ok(Groups { tree })
+        Groups::merge(alloc, &self.inner, left, right)
     }
 }
 
@@ -138,7 +208,9 @@ fn next_under<R: Reducer>(
 ) -> Result<(), NoMemory>
     requires room { MayTake (GroupsStand (R.stands inner.now)) tree.old.entries }
     requires accepts { R.accepts inner.now input }
-    ensures { OnOk result (TakesNext (GroupsStand (R.stands inner.now)) tree.old.entries (key, input) tree.new.entries) }
+    ensures stands { OnOk result (GroupsTakeNext (R.stands inner.now)
+        tree.old.entries key input tree.new.entries) }
+    ensures free { R.is_free inner.now → state_at key tree.old.entries ≢ None → IsOk result }
 {
     if let Some(state) = tree.get_mut(&key) {
         return inner.next(alloc, state, input);
@@ -166,7 +238,8 @@ fn merge_trees<R: Reducer>(
     right: BTreeMap<TextValue, R::State>,
 ) -> Result<BTreeMap<TextValue, R::State>, NoMemory>
     requires { MayMerge (GroupsStand (R.stands inner.now)) left.entries right.entries }
-    ensures { IfOk result (λ whole. GroupsTogether (R.stands inner.now) left.entries right.entries whole.entries) }
+    ensures { IfOk result (λ whole. GroupsTogether (R.stands inner.now)
+        left.entries right.entries whole.entries) }
 {
     let mut whole = left;
     for (key, state) in right {
@@ -175,8 +248,8 @@ fn merge_trees<R: Reducer>(
     Ok(whole)
 }
 
-/// Merges a state into that of its key, or puts it there where there is none. Where there is one, a unit stands in its place
-/// while the two are merged, so that the tree keeps its shape.
+/// Merges a state into that of its key, or puts it there where there is none. A state that is there is taken out, so that no
+/// unit is made to stand in its place.
 fn put_after<R: Reducer>(
     alloc: Global,
     inner: &R,
@@ -185,28 +258,28 @@ fn put_after<R: Reducer>(
     state: R::State,
 ) -> Result<(), NoMemory>
     requires { MayMergeInto (R.stands inner.now) (state_at key tree.old.entries) state }
-    ensures { OnOk result (GroupsTogether (R.stands inner.now) tree.old.entries ((key, state) ∷ []) tree.new.entries) }
+    ensures { OnOk result (GroupsTogether (R.stands inner.now)
+        tree.old.entries ((key, state) ∷ []) tree.new.entries) }
 {
-    match tree.get_mut(&key) {
-        Some(slot) => merge_into(alloc, inner, slot, state),
-        None => {
-            tree.insert(key, state)?;
-            Ok(())
-        }
-    }
+    let before = tree.remove(&key);
+    let whole = merge_into(alloc, inner, before, state)?;
+    tree.insert(key, whole)?;
+    Ok(())
 }
 
-/// Merges a state into the one before it.
+/// Merges a state into the one before it, if there is one.
 fn merge_into<R: Reducer>(
     alloc: Global,
     inner: &R,
-    slot: &mut R::State,
+    before: Option<R::State>,
     after: R::State,
-) -> Result<(), NoMemory>
-    requires { MayMerge (R.stands inner.now) slot.old after }
-    ensures { OnOk result (TakesTogether (R.stands inner.now) slot.old after slot.new) }
+) -> Result<R::State, NoMemory>
+    requires { MayMergeInto (R.stands inner.now) before after }
+    ensures { IfOk result (λ whole.
+        TogetherWhere (R.stands inner.now) before (Some after) (Some whole)) }
 {
-    let before = replace(slot, inner.unit(alloc)?);
-    *slot = inner.merge(alloc, before, after)?;
-    Ok(())
+    match before {
+        Some(before) => inner.merge(alloc, before, after),
+        None => Ok(after),
+    }
 }

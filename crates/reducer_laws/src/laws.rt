@@ -1,45 +1,58 @@
-//! Laws of what states stand for, each the contract of a function that does nothing.
+//! Laws of what states stand for, each the contract of a function that does nothing, and what threads share.
 
-ghost use Rattle.std.specs.Prelude.{◌≡◌, ℕ, ◌^◌, ◌≤◌, List, [], ◌++◌, length, Some, Bool, false, All, Contains, ℤ, pos, neg_ℤ, ◌≤ℤ◌};
-ghost use Rattle.std.specs.Ordering.{is_lt};
-ghost use Rattle.std.specs.declared.cmp.Ordering.TheVariants.{Equal};
-ghost use Rattle.reducer_laws.specs.Standing.{TakesTogether};
-ghost use Rattle.reducer_laws.specs.Numbers.{IsSum};
-ghost use Rattle.reducer_laws.specs.Extremes.{IsFirstExtreme, is_smaller_at, is_greater_at};
+ghost use Rattle.reducer_laws.specs.Laws.{MergingIsAssociative, UnitsAddNothing, StatesAreBest, StatesAreUnbeaten};
+ghost use Rattle.reducer_laws.specs.Laws.{LeastIsHeldAtLeastPlace, GreatestIsHeldAtLeastPlace, SumsAreWithinBounds};
+ghost use Rattle.reducer_laws.specs.Laws.{LeastStatesSayResults, GreatestStatesSayResults};
+ghost use Rattle.reducer_laws.specs.Laws.{GroupsHaveKeysOfInputs, EachGroupStands};
 
 use crate::{
-    AllOf, AnyOf, Both, Count, FirstOf, Greatest, GreatestAt, LastOf, Least, LeastAt, Preference,
-    Prod, Reducer, Sum,
+    AllOf, AnyOf, Both, Count, FirstOf, Greatest, GreatestAt, Grouped, Groups, LastOf, Least,
+    LeastAt, Listed, Preference, Prod, Reducer, Sum,
 };
+use loop_data::Many;
 
 /// Three states merged either way stand for their three lists together.
 pub fn merging_is_associative<R: Reducer>()
-    ensures { (r : R) (xs ys zs : List R.Input) (x y z xy yz one other : R.State) → R.stands r x xs → R.stands r y ys → R.stands r z zs → TakesTogether (R.stands r) x y xy → TakesTogether (R.stands r) xy z one → TakesTogether (R.stands r) y z yz → TakesTogether (R.stands r) x yz other → R.stands r one (xs ++ ys ++ zs) × R.stands r other (xs ++ ys ++ zs) }
+    ensures { (r : R) → MergingIsAssociative (R.stands r) }
 {}
 
 /// A state merged with a unit, on either side, stands for what it stood for.
 pub fn a_unit_adds_nothing<R: Reducer>()
-    ensures { (r : R) (xs : List R.Input) (unit x left right : R.State) → R.stands r unit [] → R.stands r x xs → TakesTogether (R.stands r) unit x left → TakesTogether (R.stands r) x unit right → R.stands r left xs × R.stands r right xs }
+    ensures { (r : R) → UnitsAddNothing (R.stands r) }
 {}
 
-/// What a best state holds is one of the inputs, and no input beats it.
+/// What a best state holds is the best of its inputs, one that no input beats. It holds none exactly where there are none.
 pub fn the_best_is_an_unbeaten_input<P: Preference>()
-    ensures { (x : P.Of) (xs : List P.Of) → IsFirstExtreme P.beats (Some x) xs → Contains xs x × All (λ y. P.beats y x ≡ false) xs }
+    ensures best { StatesAreBest P.beats }
+    ensures unbeaten { StatesAreUnbeaten P.beats }
 {}
 
 /// The smallest value is held with the least place where a value stands that is equal to it.
 pub fn the_least_stands_at_its_least_place<T: Ord>()
-    ensures { (x y : T × ℕ) (xs : List (T × ℕ)) → IsFirstExtreme (is_smaller_at T.cmp) (Some x) xs → Contains xs y → (is_lt (T.cmp y.0 x.0) ≡ false) × (T.cmp y.0 x.0 ≡ Equal → x.1 ≤ y.1) }
+    ensures { LeastIsHeldAtLeastPlace T.cmp }
 {}
 
 /// The greatest value is held with the least place where a value stands that is equal to it.
 pub fn the_greatest_stands_at_its_least_place<T: Ord>()
-    ensures { (x y : T × ℕ) (xs : List (T × ℕ)) → IsFirstExtreme (is_greater_at T.cmp) (Some x) xs → Contains xs y → (is_lt (T.cmp x.0 y.0) ≡ false) × (T.cmp x.0 y.0 ≡ Equal → x.1 ≤ y.1) }
+    ensures { GreatestIsHeldAtLeastPlace T.cmp }
+{}
+
+/// A state of an extreme with its place says what a tower's result says, whose places are integers of the loop language.
+pub fn a_state_with_its_place_says_the_result<T: Ord>()
+    ensures least { LeastStatesSayResults T.cmp }
+    ensures greatest { GreatestStatesSayResults T.cmp }
 {}
 
 /// The sum of at most 2^62 inputs is at most 2^125 from zero.
 pub fn a_sum_is_within_bounds()
-    ensures { (total : ℤ) (xs : List ℤ) → IsSum total xs → length xs ≤ 2 ^ 62 → (neg_ℤ (pos (2 ^ 125)) ≤ℤ total) × (total ≤ℤ pos (2 ^ 125)) }
+    ensures { SumsAreWithinBounds }
+{}
+
+/// Groups that stand for a list have the keys of the list, each once and by rising bytes, and the state of each stands for the
+/// inputs of that key.
+pub fn groups_have_the_keys_of_their_inputs<R: Reducer>()
+    ensures keys { (r : R) → GroupsHaveKeysOfInputs (R.stands r) }
+    ensures states { (r : R) → EachGroupStands (R.stands r) }
 {}
 
 fn is_shared<T: Send + Sync>() {}
@@ -58,4 +71,12 @@ pub fn threads_share_reducers<T: Ord + Send + Sync, A: Send + Sync, B: Send + Sy
     is_shared::<AnyOf>();
     is_shared::<AllOf>();
     is_shared::<Both<A, B>>();
+}
+
+/// Threads share the reducers of lists and groups and their states, and hand them to each other.
+pub fn threads_share_lists_and_groups<T: Send + Sync, R: Send + Sync>() {
+    is_shared::<Listed<T>>();
+    is_shared::<Many<T>>();
+    is_shared::<Grouped<R>>();
+    is_shared::<Groups<T>>();
 }

@@ -8,7 +8,6 @@ mod both;
 mod counts;
 mod ends;
 mod extremes;
-pub mod group_laws;
 mod grouped;
 pub mod laws;
 mod listed;

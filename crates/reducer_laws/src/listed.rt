@@ -32,6 +32,8 @@ impl<T: Drop> Reducer for Listed<T> {
 
     ghost is_free = { λ _. ⊥ };
 
+    ghost unit_is_free = { λ _. Unit {0} };
+
     fn unit(&self, alloc: Global) -> Result<Many<T>, NoMemory> {
         Ok(Many::new(alloc))
     }

@@ -28,6 +28,8 @@ impl Reducer for Sum {
 
     ghost is_free = { λ _. Unit {0} };
 
+    ghost unit_is_free = { λ _. Unit {0} };
+
     fn unit(&self, _alloc: Global) -> Result<i128, NoMemory> {
         Ok(0)
     }
@@ -63,6 +65,8 @@ impl Reducer for Prod {
     ghost accepts = { λ _ _. Unit {0} };
 
     ghost is_free = { λ _. Unit {0} };
+
+    ghost unit_is_free = { λ _. Unit {0} };
 
     fn unit(&self, _alloc: Global) -> Result<i64, NoMemory> {
         Ok(1)

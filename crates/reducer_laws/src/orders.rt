@@ -2,7 +2,8 @@
 
 ghost use Rattle.std.specs.Prelude.{◌≡◌, Bool};
 ghost use Rattle.std.specs.Cmp.{IsStrictWeakOrder};
-ghost use Rattle.reducer_laws.specs.Extremes.{is_smaller, is_greater, is_smaller_at, is_greater_at};
+ghost use Rattle.std.specs.Ordering.{nat_cmp};
+ghost use Rattle.loop_results.specs.Extremes.{is_smaller, is_greater, is_smaller_at, is_greater_at};
 
 use std::marker::PhantomData;
 
@@ -37,7 +38,7 @@ impl<T: Ord + Drop> Preference for Smaller<T> {
         one.cmp(other).is_lt()
     }
 
-    ghost use Rattle.reducer_laws.specs.OrderLaws.{smaller_is_order};
+    ghost use Rattle.loop_results.specs.Orders.{smaller_is_order};
 
     ghost is_order = { smaller_is_order T.Ord.total };
 }
@@ -57,7 +58,7 @@ impl<T: Ord + Drop> Preference for Greater<T> {
         other.cmp(one).is_lt()
     }
 
-    ghost use Rattle.reducer_laws.specs.OrderLaws.{greater_is_order};
+    ghost use Rattle.loop_results.specs.Orders.{greater_is_order};
 
     ghost is_order = { greater_is_order T.Ord.total };
 }
@@ -71,15 +72,16 @@ pub struct SmallerAt<T> {
 impl<T: Ord + Drop> Preference for SmallerAt<T> {
     type Of = (T, u64);
 
-    ghost beats = { is_smaller_at T.cmp };
+    ghost beats = { is_smaller_at T.cmp nat_cmp };
 
     fn beats(one: &(T, u64), other: &(T, u64)) -> bool {
         one.0.cmp(&other.0).then(one.1.cmp(&other.1)).is_lt()
     }
 
-    ghost use Rattle.reducer_laws.specs.OrderLaws.{smaller_at_is_order};
+    ghost use Rattle.std.specs.Cmp.{nat_cmp_total};
+    ghost use Rattle.loop_results.specs.Orders.{smaller_at_is_order};
 
-    ghost is_order = { smaller_at_is_order T.Ord.total };
+    ghost is_order = { smaller_at_is_order T.Ord.total nat_cmp_total };
 }
 
 /// Of values with their places, prefers the greater value, and of equal values the one at the lesser place.
@@ -91,13 +93,14 @@ pub struct GreaterAt<T> {
 impl<T: Ord + Drop> Preference for GreaterAt<T> {
     type Of = (T, u64);
 
-    ghost beats = { is_greater_at T.cmp };
+    ghost beats = { is_greater_at T.cmp nat_cmp };
 
     fn beats(one: &(T, u64), other: &(T, u64)) -> bool {
         other.0.cmp(&one.0).then(one.1.cmp(&other.1)).is_lt()
     }
 
-    ghost use Rattle.reducer_laws.specs.OrderLaws.{greater_at_is_order};
+    ghost use Rattle.std.specs.Cmp.{nat_cmp_total};
+    ghost use Rattle.loop_results.specs.Orders.{greater_at_is_order};
 
-    ghost is_order = { greater_at_is_order T.Ord.total };
+    ghost is_order = { greater_at_is_order T.Ord.total nat_cmp_total };
 }

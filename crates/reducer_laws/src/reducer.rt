@@ -26,10 +26,14 @@ pub trait Reducer {
     /// The reducer's calls take no memory.
     ghost is_free: { Self → Type 0 };
 
+    /// Its unit takes no memory, as it may where its other calls take some.
+    ghost unit_is_free: { Self → Type 0 };
+
     /// A state that stands for no inputs.
     fn unit(&self, alloc: Global) -> Result<Self::State, NoMemory>
         ensures stands { IfOk result (λ state. stands self.now state []) }
-        ensures free { is_free self.now → IsOk result };
+        ensures free { is_free self.now → IsOk result }
+        ensures unit_free { unit_is_free self.now → IsOk result };
 
     /// Takes one more input, after those that the state stands for, of which there are fewer than 2^62. After `NoMemory` the
     /// state stands for no list and can only be dropped.

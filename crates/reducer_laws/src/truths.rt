@@ -28,6 +28,8 @@ impl Reducer for AnyOf {
 
     ghost is_free = { λ _. Unit {0} };
 
+    ghost unit_is_free = { λ _. Unit {0} };
+
     fn unit(&self, _alloc: Global) -> Result<bool, NoMemory> {
         Ok(false)
     }
@@ -63,6 +65,8 @@ impl Reducer for AllOf {
     ghost accepts = { λ _ _. Unit {0} };
 
     ghost is_free = { λ _. Unit {0} };
+
+    ghost unit_is_free = { λ _. Unit {0} };
 
     fn unit(&self, _alloc: Global) -> Result<bool, NoMemory> {
         Ok(true)

@@ -7,7 +7,7 @@ use Rattle.loop_data.specs.declared.tower.Kind.TheVariants as kind
 use Rattle.loop_results.specs.Results.{number, found, found_at, listed, grouped, both, group, no_more, result_of}
 use Rattle.loop_data.specs.ValueTexts.{value_text}
 use Rattle.loop_results.proofs.Layers as layer
-use Rattle.loop_results.proofs.Layers.{left_of-pair, right_of-pair, value_text-Int, value_text-Text}
+use Rattle.loop_results.proofs.Layers.{left_of-pair, right_of-pair, value_text-Int, value_text-Text, value_cmp-Int, value_cmp-Text}
 use Rattle.value_examples.specs.Inputs.{int, minus, text, pair}
 
 pub value_text-Bool : (b : Bool) → value_text (value.Bool b) ≡ (if b then codes "true" else codes "false")
@@ -21,16 +21,30 @@ value_text-pair x y = search (rules, value_lemmas)
 pub no_both : result_of (kind.Both kind.Sum kind.Least) [] ≡ both (number (pos 0)) (found None)
 no_both = layer.result_of-Both [] kind.Sum kind.Least ∙ simp (layer.result_of-Sum, layer.result_of-Least) refl
 
+-- ---- values
+
+pub least_is_minus_9 : result_of kind.Least (int 3 ∷ minus 9 ∷ int 4 ∷ minus 9 ∷ []) ≡ found (Some (minus 9))
+least_is_minus_9 = layer.result_of-Least _ ∙ simp (value_cmp-Int) refl
+
+pub greatest_is_4 : result_of kind.Greatest (int 3 ∷ minus 9 ∷ int 4 ∷ minus 9 ∷ []) ≡ found (Some (int 4))
+greatest_is_4 = layer.result_of-Greatest _ ∙ simp (value_cmp-Int) refl
+
+pub least_is_B : result_of kind.Least (text (codes "b") ∷ text (codes "B") ∷ text (codes "ba") ∷ []) ≡ found (Some (text (codes "B")))
+least_is_B = layer.result_of-Least _ ∙ simp (value_cmp-Text) refl
+
+pub greatest_is_ba : result_of kind.Greatest (text (codes "b") ∷ text (codes "B") ∷ text (codes "ba") ∷ []) ≡ found (Some (text (codes "ba")))
+greatest_is_ba = layer.result_of-Greatest _ ∙ simp (value_cmp-Text) refl
+
 -- ---- values with places
 
-pub least_at_2 : result_of kind.LeastAt (pair (int 3) (int 1) ∷ pair (minus 9) (int 2) ∷ pair (int 4) (int 3) ∷ pair (minus 9) (int 4) ∷ []) ≡ found_at (Some (minus 9)) (Some (pos 2))
-least_at_2 = layer.result_of-LeastAt _ ∙ simp (left_of-pair, right_of-pair) refl
+pub least_at_2 : result_of kind.LeastAt (pair (int 3) (int 1) ∷ pair (minus 9) (int 2) ∷ pair (int 4) (int 3) ∷ pair (minus 9) (int 4) ∷ []) ≡ found_at (Some (minus 9, pos 2))
+least_at_2 = layer.result_of-LeastAt _ ∙ simp (left_of-pair, right_of-pair, value_cmp-Int) refl
 
-pub greatest_at_2 : result_of kind.GreatestAt (pair (int 3) (int 1) ∷ pair (int 9) (int 2) ∷ pair (int 4) (int 3) ∷ pair (int 9) (int 4) ∷ []) ≡ found_at (Some (int 9)) (Some (pos 2))
-greatest_at_2 = layer.result_of-GreatestAt _ ∙ simp (left_of-pair, right_of-pair) refl
+pub greatest_at_2 : result_of kind.GreatestAt (pair (int 3) (int 1) ∷ pair (int 9) (int 2) ∷ pair (int 4) (int 3) ∷ pair (int 9) (int 4) ∷ []) ≡ found_at (Some (int 9, pos 2))
+greatest_at_2 = layer.result_of-GreatestAt _ ∙ simp (left_of-pair, right_of-pair, value_cmp-Int) refl
 
-pub b_at_6 : result_of kind.GreatestAt (pair (text (codes "b")) (int 7) ∷ pair (text (codes "a")) (int 5) ∷ pair (text (codes "b")) (int 6) ∷ []) ≡ found_at (Some (text (codes "b"))) (Some (pos 6))
-b_at_6 = layer.result_of-GreatestAt _ ∙ simp (left_of-pair, right_of-pair) refl
+pub b_at_6 : result_of kind.GreatestAt (pair (text (codes "b")) (int 7) ∷ pair (text (codes "a")) (int 5) ∷ pair (text (codes "b")) (int 6) ∷ []) ≡ found_at (Some (text (codes "b"), pos 6))
+b_at_6 = layer.result_of-GreatestAt _ ∙ simp (left_of-pair, right_of-pair, value_cmp-Text) refl
 
 -- ---- groups
 

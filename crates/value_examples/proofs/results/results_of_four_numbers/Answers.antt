@@ -18,11 +18,11 @@ returns-clause-product c = ap text_of_result (layer.result_of-Prod _)
 
 pub returns-clause-least : goal.returns-clause-least
 unfolding digits int_wrap
-returns-clause-least c = ap text_of_result (layer.result_of-Least _) ∙ value_text-Int _
+returns-clause-least c = ap text_of_result worked.least_is_minus_9 ∙ value_text-Int _
 
 pub returns-clause-greatest : goal.returns-clause-greatest
 unfolding digits int_wrap
-returns-clause-greatest c = ap text_of_result (layer.result_of-Greatest _) ∙ value_text-Int _
+returns-clause-greatest c = ap text_of_result worked.greatest_is_4 ∙ value_text-Int _
 
 pub returns-clause-first : goal.returns-clause-first
 unfolding digits int_wrap

@@ -10,11 +10,11 @@ use Rattle.value_examples.proofs.results.results_of_texts.Goals as goal
 
 pub returns-clause-least : goal.returns-clause-least
 unfolding digits int_wrap
-returns-clause-least c = ap text_of_result (layer.result_of-Least _) ∙ value_text-Text _
+returns-clause-least c = ap text_of_result worked.least_is_B ∙ value_text-Text _
 
 pub returns-clause-greatest : goal.returns-clause-greatest
 unfolding digits int_wrap
-returns-clause-greatest c = ap text_of_result (layer.result_of-Greatest _) ∙ value_text-Text _
+returns-clause-greatest c = ap text_of_result worked.greatest_is_ba ∙ value_text-Text _
 
 pub returns-clause-greatest_at : goal.returns-clause-greatest_at
 unfolding digits int_wrap

@@ -1,5 +1,5 @@
 use Rattle.std.proofs.Common.{sym, ◌∙◌}
-use Rattle.reducer_laws.proofs.ExtremeLemmas.{right_wins, left_stays}
+use Rattle.loop_results.proofs.ExtremeLemmas.{right_wins, left_stays}
 use Rattle.reducer_laws.proofs.extremes.BestReducer.merge.Goals as goal
 
 pub returns-then-beats-clause-stands : goal.returns-then-beats-clause-stands
