@@ -3,8 +3,8 @@
 ghost use Rattle.std.specs.Prelude.{◌≡◌, ◌≤◌, ◌<◌, ◌+◌, ◌^◌, ℕ, IfOk};
 ghost use Rattle.fold_examples.specs.Sums.{SumUntilStands};
 
-use crate::{Sum, SumUntil};
-use fold_seq::{Job, Reduced, combine, fold_seq};
+use crate::{ApartLoop, PlaceLoop, Sum, SumUntil};
+use fold_seq::{End, Job, Reduced, combine, fold_seq};
 use no_memory::NoMemory;
 use splittable::{Shape, Splittable};
 use std::alloc::Global;
