@@ -1,3 +1,5 @@
 pub mod Sums
 pub mod SumLaws
 pub mod UntilLaws
+pub mod Carried
+pub mod CarriedLaws

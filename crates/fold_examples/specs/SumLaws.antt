@@ -8,7 +8,7 @@ use Rattle.splittable.specs.Parts.{numbers_from}
 use Rattle.splittable.proofs.PartHalves.{numbers_from-add}
 use Rattle.fold_seq.specs.declared.answers.Reduced.TheVariants.{Going, Stopped, Faulted}
 use Rattle.fold_seq.specs.Standing.{UnitStands, MergeStands, StopStands, StopLies, EndsAlike}
-use Rattle.fold_examples.specs.Sums.{sum_of_places, IsSum, SumStands}
+use Rattle.fold_examples.specs.Sums.{sum_of_places, IsWrappedSum, SumStands}
 
 -- the sum of two stretches next to each other
 pub sum_of_places-add : (first n m : ℕ) → sum_of_places first (n + m) ≡ (sum_of_places first n + sum_of_places (first + n) m) % 2 ^ 64
@@ -34,7 +34,7 @@ pub sum_unit : UnitStands SumStands (λ state. state ≡ 0)
 unfolding numbers_from
 sum_unit state first one h = h
 
-pub sum_merge : MergeStands SumStands IsSum
+pub sum_merge : MergeStands SumStands IsWrappedSum
 sum_merge first n m left (Going right) (Going whole) one h k c = rw (c, h, k) (sym (sum_of_places-add first n m))
 sum_merge first n m left (Going right) (Stopped _ _ _) one h k c = absurd c
 sum_merge first n m left (Going right) (Faulted _ _ _) one h k c = absurd c
@@ -52,7 +52,7 @@ sum_lies first n (Stopped _ _ _) one h = absurd h
 sum_lies first n (Faulted _ _ _) one h = absurd h
 
 pub sum_ends : EndsAlike SumStands
-sum_ends first n (Going _) (Going _) one h k = tt
+sum_ends first n (Going _) (Going _) one h k = refl
 sum_ends first n (Going _) (Stopped _ _ _) one h k = absurd k
 sum_ends first n (Going _) (Faulted _ _ _) one h k = absurd k
 sum_ends first n (Stopped _ _ _) other one h k = absurd h

@@ -10,8 +10,8 @@ abbrev pub sum_of_places : ℕ → ℕ → ℕ
 sum_of_places first n = sum (numbers_from first n) % 2 ^ 64
 
 -- the wrapped sum of two sums
-abbrev pub IsSum : ℕ → ℕ → ℕ → Type 0
-IsSum left right total = total ≡ (left + right) % 2 ^ 64
+abbrev pub IsWrappedSum : ℕ → ℕ → ℕ → Type 0
+IsWrappedSum left right total = total ≡ (left + right) % 2 ^ 64
 
 -- a sum that no item stops
 abbrev pub SumStands : ℕ → ℕ → Reduced ℕ → Type 0

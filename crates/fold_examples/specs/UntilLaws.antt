@@ -1,12 +1,13 @@
 -- The laws of what a sum up to a place stands for.
 -- Source: this project.
 use Rattle.std.specs.Prelude.{◌≡◌, ℕ, ◌+◌, ◌-◌, ◌<◌, ◌≤◌, ◌⊎◌, Option, Some, None}
-use Rattle.std.proofs.Common.{sym, ap, ◌∙◌, arith, inl, inr}
+use Rattle.std.proofs.Common.{refl, sym, ap, ap₂, ◌∙◌, arith, inl, inr}
 use Rattle.std.proofs.lemmas.Bool.{cases_lt}
 use Rattle.splittable.specs.Parts.{numbers_from}
 use Rattle.fold_seq.specs.declared.answers.Reduced.TheVariants.{Going, Stopped, Faulted}
+use Rattle.fold_seq.specs.declared.answers.End.TheVariants as ends
 use Rattle.fold_seq.specs.Standing.{UnitStands, MergeStands, StopStands, StopLies, EndsAlike}
-use Rattle.fold_examples.specs.Sums.{IsSum, IsReached, SumUntilStands}
+use Rattle.fold_examples.specs.Sums.{IsWrappedSum, IsReached, SumUntilStands}
 use Rattle.fold_examples.specs.SumLaws.{sum_of_places-add}
 
 past : (at first : ℕ) → (at < first) ⊎ (first + 0 ≤ at)
@@ -18,6 +19,9 @@ past at first =
 
 some_or_none : (o : Option ℕ) (kind : ℕ) → o ≡ None → o ≡ Some kind → ⊥
 some_or_none o kind none some = cc
+
+some_same : (o : Option ℕ) (kind kind' : ℕ) → o ≡ Some kind → o ≡ Some kind' → kind ≡ kind'
+some_same o kind kind' one other = cc
 
 pub until_unit : (at line : ℕ) (fault : Option ℕ) → UnitStands (SumUntilStands at line fault) (λ state. state ≡ 0)
 unfolding numbers_from
@@ -32,7 +36,7 @@ not_before : (at first n m : ℕ) → (at < first) ⊎ (first + n ≤ at) → Is
 not_before at first n m (inl before) h = absurd (omega (arith, before, h.0))
 not_before at first n m (inr after) h = after
 
-pub until_merge : (at line : ℕ) (fault : Option ℕ) → MergeStands (SumUntilStands at line fault) IsSum
+pub until_merge : (at line : ℕ) (fault : Option ℕ) → MergeStands (SumUntilStands at line fault) IsWrappedSum
 until_merge at line fault first n m left (Going right) (Going whole) one h k c =
     (past_both at first n m h.0 k.0, rw (c, h.1, k.1) (sym (sum_of_places-add first n m)))
 until_merge at line fault first n m left (Going right) (Stopped _ _ _) one h k c = absurd c
@@ -68,12 +72,14 @@ both_ways at first n (inl before) h = absurd (omega (arith, before, h.0))
 both_ways at first n (inr after) h = absurd (omega (arith, after, h.1))
 
 pub until_ends : (at line : ℕ) (fault : Option ℕ) → EndsAlike (SumUntilStands at line fault)
-until_ends at line fault first n (Going _) (Going _) one h k = tt
+until_ends at line fault first n (Going _) (Going _) one h k = refl
 until_ends at line fault first n (Going _) (Stopped _ _ _) one h k = absurd (both_ways at first n h.0 k.3)
 until_ends at line fault first n (Going _) (Faulted _ _ _) one h k = absurd (both_ways at first n h.0 k.3)
 until_ends at line fault first n (Stopped _ _ _) (Going _) one h k = absurd (both_ways at first n k.0 h.3)
-until_ends at line fault first n (Stopped _ _ _) (Stopped _ _ _) one h k = (h.1 ∙ sym k.1, h.2 ∙ sym k.2)
+until_ends at line fault first n (Stopped _ _ _) (Stopped _ _ _) one h k = ap₂ (λ a l. ends.Stopped a l) (h.1 ∙ sym k.1) (h.2 ∙ sym k.2)
 until_ends at line fault first n (Stopped _ _ _) (Faulted _ _ _) one h k = absurd (some_or_none fault _ h.0 k.0)
 until_ends at line fault first n (Faulted _ _ _) (Going _) one h k = absurd (both_ways at first n k.0 h.3)
 until_ends at line fault first n (Faulted _ _ _) (Stopped _ _ _) one h k = absurd (some_or_none fault _ k.0 h.0)
-until_ends at line fault first n (Faulted _ _ _) (Faulted _ _ _) one h k = (h.1 ∙ sym k.1, h.2 ∙ sym k.2, cc)
+until_ends at line fault first n (Faulted _ line' kind) (Faulted at' line'' kind') one h k =
+    let same : kind ≡ kind' = some_same fault kind kind' h.0 k.0 in
+    ap₂ (λ a l. ends.Faulted a l kind) (h.1 ∙ sym k.1) (h.2 ∙ sym k.2) ∙ ap (λ z. ends.Faulted at' line'' z) same

@@ -2,7 +2,7 @@
 
 ghost use Rattle.std.specs.Prelude.{◌≡◌, ◌≤◌, ◌-◌, ◌+◌, ℕ, IfOk};
 ghost use Rattle.splittable.specs.Nodes.{IsNode};
-ghost use Rattle.fold_examples.specs.Sums.{sum_of_places, IsSum, SumStands};
+ghost use Rattle.fold_examples.specs.Sums.{sum_of_places, IsWrappedSum, SumStands};
 
 use fold_seq::{Job, Reduced};
 use no_memory::NoMemory;
@@ -24,7 +24,7 @@ impl Job for Sum {
 
     ghost is_unit = { λ _ state. state ≡ 0 };
 
-    ghost merges = { λ _. IsSum };
+    ghost merges = { λ _. IsWrappedSum };
 
     fn shape(&self) -> Shape {
         self.shape

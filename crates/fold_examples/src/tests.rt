@@ -3,8 +3,8 @@
 ghost use Rattle.std.specs.Prelude.{◌≡◌, ◌≤◌, ◌<◌, ◌+◌, ◌^◌, ℕ, IfOk};
 ghost use Rattle.fold_examples.specs.Sums.{SumUntilStands};
 
-use crate::{Sum, SumUntil};
-use fold_seq::{Job, Reduced, combine, fold_seq};
+use crate::{ApartLoop, PlaceLoop, Sum, SumUntil};
+use fold_seq::{End, Job, Reduced, combine, fold_seq};
 use no_memory::NoMemory;
 use splittable::{Shape, Splittable};
 use std::alloc::Global;
@@ -77,6 +77,12 @@ fn a_sum_cut_at_every_place_is_the_whole(rt: HostRuntime) -> Result<(), NoMemory
             assert!(rt; have == want, "{at} {cut}");
         }
         assert!(rt; fold_seq(rt.alloc(), &job)? == want, "{at}");
+        let end = match fault {
+            _ if at > 12 => End::Going,
+            None => End::Stopped { at, line: 3 },
+            Some(kind) => End::Faulted { at, line: 3, kind },
+        };
+        assert!(rt; want.end() == end, "{at}");
         let stops = if at <= 12 { Some(at) } else { None };
         assert!(rt; want.stop_place() == stops, "{at}");
     }
@@ -113,5 +119,32 @@ fn an_empty_shape_gives_the_unit(rt: HostRuntime) -> Result<(), NoMemory> {
         fault: Some(1),
     };
     assert!(rt; fold_seq(rt.alloc(), &job)? == Reduced::Going(0));
+    Ok(())
+}
+
+/// Parts of a loop that carries don't give together what the whole does, and it is no job.
+#[test]
+fn only_a_loop_that_carries_nothing_is_a_job(rt: HostRuntime) -> Result<(), NoMemory> {
+    let Ok(shape) = Shape::new(&[3, 4]) else {
+        assert!(rt; false);
+        return Ok(());
+    };
+    let carrying = PlaceLoop {
+        shape,
+        carries: true,
+    };
+    assert_eq!(rt; carrying.run(1, 12), 144);
+    assert_eq!(rt; (carrying.run(1, 6), carrying.run(7, 6)), (36, 102));
+    assert!(rt; ApartLoop::new(carrying).is_none());
+    let apart = PlaceLoop {
+        shape,
+        carries: false,
+    };
+    assert_eq!(rt; (apart.run(1, 6), apart.run(7, 6)), (21, 57));
+    let Some(job) = ApartLoop::new(apart) else {
+        assert!(rt; false);
+        return Ok(());
+    };
+    assert!(rt; fold_seq(rt.alloc(), &job)? == Reduced::Going(78));
     Ok(())
 }

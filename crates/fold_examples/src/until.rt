@@ -2,7 +2,7 @@
 
 ghost use Rattle.std.specs.Prelude.{◌≡◌, ◌≤◌, ◌<◌, ◌+◌, ◌^◌, ℕ, IfOk};
 ghost use Rattle.splittable.specs.Nodes.{IsNode};
-ghost use Rattle.fold_examples.specs.Sums.{IsSum, SumUntilStands};
+ghost use Rattle.fold_examples.specs.Sums.{IsWrappedSum, SumUntilStands};
 
 use crate::sums::sum_of_places;
 use fold_seq::{Job, Reduced};
@@ -55,7 +55,7 @@ impl Job for SumUntil {
 
     ghost is_unit = { λ _ state. state ≡ 0 };
 
-    ghost merges = { λ _. IsSum };
+    ghost merges = { λ _. IsWrappedSum };
 
     fn shape(&self) -> Shape {
         self.shape

@@ -31,10 +31,10 @@ stop_place_of (Stopped at _ _) = Some at
 stop_place_of (Faulted at _ _) = Some at
 
 -- the answer is that the stretch ran to its end, and the state is one of these
-abbrev pub IsGoingAnd : {S : Type 0} → Reduced S → (S → Type 0) → Type 0
-IsGoingAnd (Going state) P = P state
-IsGoingAnd (Stopped _ _ _) P = ⊥
-IsGoingAnd (Faulted _ _ _) P = ⊥
+abbrev pub IsGoingAnd : {S : Type 0} → (S → Type 0) → Reduced S → Type 0
+IsGoingAnd P (Going state) = P state
+IsGoingAnd P (Stopped _ _ _) = ⊥
+IsGoingAnd P (Faulted _ _ _) = ⊥
 
 -- the item at which the stretch stopped or faulted, if it did, lies in the stretch of so many items
 abbrev pub StopsWithin : {S : Type 0} → ℕ → ℕ → Reduced S → Type 0

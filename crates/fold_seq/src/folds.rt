@@ -58,7 +58,7 @@ fn combine_going<J: Job>(
 /// Runs all items as one part; where there are none, the answer is the unit, and that they ran to their end.
 pub fn fold_seq<J: Job>(alloc: Global, job: &J) -> Result<Reduced<J::State>, NoMemory>
     ensures stands { IfOk result (J.stands job.now 1 (item_count (J.lens job.now))) }
-    ensures empty { item_count (J.lens job.now) ≡ 0 → IfOk result (λ answer. IsGoingAnd answer (J.is_unit job.now)) }
+    ensures empty { item_count (J.lens job.now) ≡ 0 → IfOk result (IsGoingAnd (J.is_unit job.now)) }
 {
     match job.shape().whole() {
         Some(whole) => job.run_part(alloc, &whole),

@@ -1,6 +1,6 @@
 -- A part of a shape: consecutive places. Its windows on the axes, and its two halves.
 -- Source: `halve` of SplittablesBase.jl; where a part is cut is this project's own.
-use Rattle.std.specs.Prelude.{◌≡◌, ◌≤◌, ◌<◌, ℕ, zero, suc, ◌+◌, ◌-◌, ◌*◌, ◌/◌, ◌==◌, if◌then◌else◌, List, [], ◌∷◌}
+use Rattle.std.specs.Prelude.{◌≡◌, ◌≤◌, ◌<◌, ℕ, zero, suc, ◌+◌, ◌-◌, ◌*◌, ◌/◌, ◌==◌, if◌then◌else◌, List, [], ◌∷◌, ◌++◌}
 use Rattle.splittable.specs.Places.{item_count, places_on_axes}
 
 -- so many places of a shape of these lengths, from the first on
@@ -60,6 +60,10 @@ pub record AreHalves (part left right : Stretch) : Type 0 where
   pub together : left.len + right.len ≡ part.len
   pub left_third : part.len ≤ 3 * left.len
   pub right_third : part.len ≤ 3 * right.len
+
+-- the places of two parts, one after the other, are those of a part
+abbrev pub HavePlacesOf : Stretch → Stretch → Stretch → Type 0
+HavePlacesOf part left right = part_places left ++ part_places right ≡ part_places part
 
 -- a place lies in a part
 abbrev pub HoldsPlace : Stretch → ℕ → Type 0

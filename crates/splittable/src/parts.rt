@@ -1,9 +1,9 @@
 //! Parts: stretches of a shape's places.
 
-ghost use Rattle.std.specs.Prelude.{◌≡◌, ◌≤◌, ◌<◌, ◌↔◌, ◌+◌, length, ◌++◌, IsNone, IfSome, [], ◌∷◌};
+ghost use Rattle.std.specs.Prelude.{◌≡◌, ◌≤◌, ◌<◌, ◌↔◌, ◌+◌, length, IsNone, IfSome, [], ◌∷◌};
 ghost use Rattle.splittable.specs.Ranges.{most_items};
 ghost use Rattle.splittable.specs.Places.{item_count, places_on_four, AreOnAxes};
-ghost use Rattle.splittable.specs.Parts.{part_places, whole_of, left_half, right_half, AreHalves};
+ghost use Rattle.splittable.specs.Parts.{part_places, whole_of, left_half, right_half, AreHalves, HavePlacesOf};
 ghost use Rattle.splittable.specs.Nodes.{HasNodesAlways, least_part_of};
 
 use super::halving::Splittable;
@@ -107,7 +107,7 @@ impl Splittable for Part {
         ensures none { IsNone result ↔ (length (part_places self.now) ≤ 1) }
         ensures left { IfSome result (λ halves. 0 < length (part_places halves.0)) }
         ensures right { IfSome result (λ halves. 0 < length (part_places halves.1)) }
-        ensures whole { IfSome result (λ h. part_places h.0 ++ part_places h.1 ≡ part_places self.now) }
+        ensures whole { IfSome result (λ halves. HavePlacesOf self.now halves.0 halves.1) }
 
         ensures one { IsNone result ↔ (self.now.len ≡ 1) }
         ensures cut_left { IfSome result (λ halves. halves.0 ≡ left_half self.now) }
