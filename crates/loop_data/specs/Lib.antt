@@ -1,4 +1,5 @@
 pub mod Held
+pub mod KindTexts
 pub mod Laws
 pub mod OrderLaws
 pub mod ShortTexts

@@ -1,6 +1,6 @@
 -- An order of all values: numbers by size, before texts by their bytes, before truth values with false first, before nothing,
 -- before tuples, which are ordered part by part. Source: this project.
-use Rattle.std.specs.Prelude.{ℕ, List}
+use Rattle.std.specs.Prelude.{ℕ}
 use Rattle.std.specs.Ordering.{nat_cmp, int_cmp, bool_cmp}
 use Rattle.std.specs.declared.cmp.Ordering.{Ordering}
 use Rattle.std.specs.Cmp.Lexicographic.{slice_cmp}

@@ -5,6 +5,7 @@
 #![tactic(auto)]
 
 mod boxed;
+mod display;
 mod expr;
 mod head;
 pub mod laws;

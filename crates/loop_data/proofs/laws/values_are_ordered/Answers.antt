@@ -1,4 +1,4 @@
-use Rattle.std.proofs.Common.{ap, ◌∙◌, rules, subst, ◌≡◌}
+use Rattle.std.proofs.Common.{rules, subst, ◌≡◌}
 use Rattle.std.specs.declared.cmp.Ordering.TheVariants.{Equal}
 use Rattle.loop_data.specs.ValueOrder.{value_cmp}
 use Rattle.loop_data.specs.declared.value.Value.{the_lemmas}
