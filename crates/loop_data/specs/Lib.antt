@@ -7,4 +7,3 @@ pub mod ValueOrder
 pub mod ValueParts
 pub mod ValueTexts
 pub mod formers
-pub mod ValueOrder
