@@ -1,12 +1,7 @@
 //! One file: its records, its header, and each refusal.
 
-<<<<<<<< HEAD:crates/base_tests/src/tables.rt
-use column_input::{Table, TableRefusal};
-use std::alloc::{AllocError, Global};
-========
 use super::{lines, shown};
 use column_input::{Table, TableRefusal};
->>>>>>>> 787af29 (Read several files into one table, and keep 4 bytes a field):crates/table_tests/src/tests/one_file.rt
 use std::test::Fail;
 
 /// Bytes, the name of a column, and its texts.
@@ -142,6 +137,22 @@ fn takes_1024_columns(rt: HostRuntime) -> Result<(), Fail> {
     let refusal = TableRefusal::TooManyColumns { columns: 1025 };
     assert_eq!(rt;
         Table::read(rt.alloc(), over.as_slice()).err(),
+        Some(refusal)
+    );
+    Ok(())
+}
+
+#[test]
+fn takes_as_many_fields_as_the_limit(rt: HostRuntime) -> Result<(), Fail> {
+    let most = lines(rt.alloc(), 4, 256)?;
+    assert_eq!(rt;
+        Table::read_within(rt.alloc(), most.as_slice(), 1024).err(),
+        None
+    );
+    let over = lines(rt.alloc(), 5, 256)?;
+    let refusal = TableRefusal::TooManyFields { number: 5 };
+    assert_eq!(rt;
+        Table::read_within(rt.alloc(), over.as_slice(), 1024).err(),
         Some(refusal)
     );
     Ok(())

@@ -21,9 +21,9 @@ returns-in_err-chunk-clause-refused c =
     let passed = c.in_ok-pass_header.ensures in
     rw (handed_on _ _ c.from_residual-in_err-chunk.ensures.1)
     (λ known.
-        let first = c.in_err-chunk.ensures.rows (λ e. known (let q : c.in_err-chunk.field-0.0 ≡ refused.NoMemory = cc e in q)) (fields_of c.self.inside.header) (sym c.len-width.ensures) in
-        further_refused _ _ c.args.self.now _ _ _ _ counted (ap (λ (table : Contents). table.header) (sym c.self.view_is))
-        (sym c.in_ok-records.ensures ∙ passed.same) passed.text passed.fits first)
+    let first = c.in_err-chunk.ensures.rows (λ e. known (let q : c.in_err-chunk.field-0.0 ≡ refused.NoMemory = cc e in q)) (fields_of c.self.inside.header) (sym c.len-width.ensures) in
+    further_refused _ _ c.args.self.now _ _ _ _ counted (ap (λ (table : Contents). table.header) (sym c.self.view_is))
+    (sym c.in_ok-records.ensures ∙ passed.same) passed.text passed.fits first)
 
 pub invariant_of-self-2 : goal.invariant_of-self-2
 invariant_of-self-2 c =
