@@ -8,5 +8,3 @@
 mod edge;
 #[cfg(test)]
 mod shapes;
-#[cfg(test)]
-mod tables;

@@ -1,6 +1,6 @@
--- Rows that are kept as one list of fields, row after row.
+-- The rows of one file, kept as one list of fields, row after row, and the rows of several files, one after another.
 -- Source: this project.
-use Rattle.std.specs.Prelude.{ℕ, zero, suc, List, [], ◌∷◌, Option, take, drop, slice_get, option_and_then}
+use Rattle.std.specs.Prelude.{◌++◌, ℕ, zero, suc, List, [], ◌∷◌, Option, take, drop, slice_get, option_and_then}
 use Rattle.column_input.specs.Records.{Fields}
 
 -- rows of one width
@@ -15,6 +15,11 @@ grid width rows = record { width = width; rows = rows }
 abbrev pub rows_of : ℕ → ℕ → Fields → List Fields
 rows_of width zero fields = []
 rows_of width (suc count) fields = take width fields ∷ rows_of width count (drop width fields)
+
+-- the rows of these grids, grid after grid
+abbrev pub joined : List Grid → List Fields
+joined [] = []
+joined (chunk ∷ chunks) = chunk.rows ++ joined chunks
 
 -- the field in this row and column, both from 0
 abbrev pub cell_at : List Fields → ℕ → ℕ → Option (List ℕ)

@@ -1,6 +1,11 @@
 pub mod Chunk
+pub mod Kept
+pub mod Laws
 pub mod Limits
 pub mod Records
 pub mod RecordsInside
+pub mod Refusals
 pub mod Table
+pub mod Text
+pub mod Texts
 pub mod Whole

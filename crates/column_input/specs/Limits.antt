@@ -6,6 +6,6 @@ use Rattle.std.specs.Prelude.{ℕ}
 abbrev pub max_columns : ℕ
 max_columns = 1024
 
--- how many fields the records of a file have together at most, the header's included
+-- how many fields the records of all files have together at most, the headers included
 abbrev pub max_fields : ℕ
 max_fields = 16777216

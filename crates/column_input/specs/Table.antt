@@ -1,64 +1,80 @@
--- The table of a text, and the first refusal of a text that is none.
--- Source: RFC 4180 for records and the header; the limits and the order of refusals are this project's.
-use Rattle.std.specs.List.{enumerate_from, filter_map, list_all}
-use Rattle.std.specs.Prelude.{◌==◌, ◌&&◌, ℕ, List, [], ◌∷◌, not, Option, Some, None, Result, Ok, Err, if◌then◌else◌, length, map, nat_lt, option_map, position, slice_get, slice_index_or, sum_by, take}
-use Rattle.std.specs.Str.{bytes_eq, is_utf8}
-use Rattle.column_input.specs.Limits.{max_columns, max_fields}
+-- The table of a list of files under one header, and the first refusal of the first file that has one.
+-- Source: RFC 4180 for records and the header; several files under one header are this project's.
+use Rattle.std.specs.Prelude.{◌+◌, ◌*◌, ◌++◌, ℕ, List, [], ◌∷◌, Option, Some, None, Result, Ok, Err, length, map, option_map, position, slice_index_or, sum_by}
+use Rattle.std.specs.Str.{bytes_eq}
+use Rattle.column_input.specs.Limits.{max_fields}
 use Rattle.column_input.specs.Records.{Fields, records_of}
+use Rattle.column_input.specs.Refusals.{first_file_refusal, further_file_refusal}
 use Rattle.column_input.specs.declared.refusal.TableRefusal.{TableRefusal}
-use Rattle.column_input.specs.declared.refusal.TableRefusal.TheVariants as refused
 
--- what a table holds: the header's fields and, after it, the fields of each row
+-- what a table holds: the header's fields, the fields of each row, file after file, and how many files it was read from
 pub record Contents : Type 0 where
   pub header : Fields
   pub rows : List Fields
+  pub files : ℕ
 
-abbrev pub contents : Fields → List Fields → Contents
-contents header rows = record { header = header; rows = rows }
+abbrev pub contents : Fields → List Fields → ℕ → Contents
+contents header rows files = record { header = header; rows = rows; files = files }
 
--- how many fields the records up to and with this number have together
-abbrev pub fields_up_to : List Fields → ℕ → ℕ
-fields_up_to records number = sum_by length (take number records)
-
--- what is wrong with a record, by its number, from 1, and its fields: the first of these that applies
-abbrev pub refusal_of : ℕ → Fields → List Fields → ℕ × Fields → Option TableRefusal
-refusal_of limit header rows (number, fields) =
-    if not (list_all is_utf8 fields) then Some (refused.NotUtf8 number)
-    else if not (length fields == length header) then Some (refused.Ragged number (length fields) (length header))
-    else if (number == 1) && nat_lt max_columns (length fields) then Some (refused.TooManyColumns (length fields))
-    else if nat_lt limit (fields_up_to (header ∷ rows) number) then Some (refused.TooManyFields number)
-    else None
-
--- the refusals of the rows under a header, row by row
-abbrev pub refusals_below : ℕ → Fields → List Fields → List TableRefusal
-refusals_below limit header rows = filter_map (refusal_of limit header rows) (enumerate_from 2 rows)
-
--- the first refusal of these records, where a file may have `limit` fields: that of the least record that has one
-abbrev pub first_refusal_within : ℕ → List Fields → Option TableRefusal
-first_refusal_within limit [] = Some refused.NoHeader
-first_refusal_within limit (header ∷ rows) = slice_get (filter_map (refusal_of limit header rows) (enumerate_from 1 (header ∷ rows))) 0
-
--- the first record is the header, the others are the rows
-abbrev pub contents_of : List Fields → Contents
-contents_of [] = contents [] []
-contents_of (header ∷ rows) = contents header rows
+-- how many fields the records of a table's files have together, the header of each file included
+abbrev pub fields_in : Contents → ℕ
+fields_in table = table.files * length table.header + sum_by length table.rows
 
 -- these contents, unless there is a refusal
 abbrev pub unless_refused : Option TableRefusal → Contents → Result Contents TableRefusal
 unless_refused None whole = Ok whole
 unless_refused (Some refusal) whole = Err refusal
 
--- the table of a text, where a file may have `limit` fields
-abbrev pub table_within : ℕ → List ℕ → Result Contents TableRefusal
-table_within limit bytes = unless_refused (first_refusal_within limit (records_of bytes)) (contents_of (records_of bytes))
+-- the records after the first, which is a file's header
+abbrev pub rows_after_header : List Fields → List Fields
+rows_after_header [] = []
+rows_after_header (header ∷ rows) = rows
 
--- the first refusal of a text
-abbrev pub first_table_refusal : List ℕ → Option TableRefusal
-first_table_refusal bytes = first_refusal_within max_fields (records_of bytes)
+-- the first file's first record is the header, its others are the rows
+abbrev pub first_contents : List Fields → Contents
+first_contents [] = contents [] [] 0
+first_contents (header ∷ rows) = contents header rows 1
 
--- the table of a text, or its first refusal
-abbrev pub table_of : List ℕ → Result Contents TableRefusal
-table_of bytes = unless_refused (first_table_refusal bytes) (contents_of (records_of bytes))
+-- a further file's records after its header follow the rows
+abbrev pub further_contents : Contents → List Fields → Contents
+further_contents table records = contents table.header (table.rows ++ rows_after_header records) (table.files + 1)
+
+-- the table of one file, where all files may have `limit` fields
+abbrev pub first_table_within : ℕ → List ℕ → Result Contents TableRefusal
+first_table_within limit bytes = unless_refused (first_file_refusal limit (records_of bytes)) (first_contents (records_of bytes))
+
+-- a table with a further file, where all files may have `limit` fields
+abbrev pub appended_within : ℕ → Contents → List ℕ → Result Contents TableRefusal
+appended_within limit table bytes =
+    unless_refused (further_file_refusal limit (fields_in table) table.header (records_of bytes)) (further_contents table (records_of bytes))
+
+-- a table with a further file
+abbrev pub appended : Contents → List ℕ → Result Contents TableRefusal
+appended table bytes = appended_within max_fields table bytes
+
+-- a table with further files, one after another, unless there was a refusal
+abbrev pub all_appended_within : ℕ → Result Contents TableRefusal → List (List ℕ) → Result Contents TableRefusal
+all_appended_within limit table [] = table
+all_appended_within limit (Err refusal) (bytes ∷ files) = Err refusal
+all_appended_within limit (Ok table) (bytes ∷ files) = all_appended_within limit (appended_within limit table bytes) files
+
+-- the table of these files, where all together may have `limit` fields, or the first refusal of the first file that has one
+abbrev pub table_within : ℕ → List (List ℕ) → Result Contents TableRefusal
+table_within limit [] = Ok (contents [] [] 0)
+table_within limit (bytes ∷ files) = all_appended_within limit (first_table_within limit bytes) files
+
+-- the table of these files, or the first refusal of the first file that has one
+abbrev pub table_of : List (List ℕ) → Result Contents TableRefusal
+table_of files = table_within max_fields files
+
+-- the refusal in place of a table, if there is none
+abbrev pub refusal_in : Result Contents TableRefusal → Option TableRefusal
+refusal_in (Ok table) = None
+refusal_in (Err refusal) = Some refusal
+
+-- the first refusal of the first file that has one
+abbrev pub first_table_refusal : List (List ℕ) → Option TableRefusal
+first_table_refusal files = refusal_in (table_of files)
 
 -- the texts of the column at this place from 0, row by row
 abbrev pub texts_at : Contents → ℕ → List (List ℕ)

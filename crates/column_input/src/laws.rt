@@ -1,18 +1,34 @@
 //! Laws of the definitions, for those who build on them.
 
-ghost use Rattle.std.specs.Prelude.{◌≡◌, ℕ, List, Ok};
-ghost use Rattle.csv.specs.Reading.{AreRecords, default_config, strip_bom};
-ghost use Rattle.csv.specs.declared.parser.State.TheVariants as st;
-ghost use Rattle.column_input.specs.Records.{records_of};
-ghost use Rattle.column_input.specs.Table.{Contents, table_of};
-ghost use Rattle.column_input.specs.Whole.{IsWhole};
+ghost use Rattle.column_input.specs.Laws.{DifferNowhereWhereEqual, OneMoreFileIsAppended, RecordsTakeTheWholeText, TablesAreWhole, TablesHoldTheirFiles, TheFirstRefusalStays};
 
 /// The records of a text are all that `csv` reads: one after another they take the text to its end.
 pub fn records_take_the_whole_text()
-    ensures { (bytes : List ℕ) → AreRecords default_config st.StartRecord (strip_bom bytes) (records_of bytes) }
+    ensures { RecordsTakeTheWholeText }
 {}
 
-/// A table has a column at least and a text for each row and column, its texts are UTF-8, and it keeps the limits.
+/// A table that was read has a column at least and a text for each row and column, its texts are UTF-8, and it keeps the limits.
 pub fn tables_are_whole()
-    ensures { (bytes : List ℕ) (table : Contents) → table_of bytes ≡ Ok table → IsWhole table }
+    ensures { TablesAreWhole }
+{}
+
+/// Its header is the first record of each file, and its rows are the records after it, file after file.
+pub fn tables_hold_their_files()
+    ensures { TablesHoldTheirFiles }
+{}
+
+/// The table of one more file is the table with that file appended: so [`crate::Table::read`] of the first file and one
+/// [`crate::Table::append`] for each further one give the table of all.
+pub fn one_more_file_is_appended()
+    ensures { OneMoreFileIsAppended }
+{}
+
+/// The first refusal of the first file that has one is that of all files.
+pub fn the_first_refusal_stays()
+    ensures { TheFirstRefusalStays }
+{}
+
+/// Two headers differ nowhere exactly where they are equal.
+pub fn differ_nowhere_where_equal()
+    ensures { DifferNowhereWhereEqual }
 {}

@@ -1,6 +1,6 @@
 //! The records of a text, one after another.
 
-ghost use Rattle.std.specs.Prelude.{◌≡◌, ◌<◌, ◌∷◌, [], Ok, length};
+ghost use Rattle.std.specs.Prelude.{◌≡◌, ◌<◌, ◌∷◌, [], IfOk, Ok, length};
 ghost use Rattle.csv.specs.Records.{AllText, fields_of};
 ghost use Rattle.column_input.specs.Records.{StartsNotUtf8, records_of};
 
@@ -42,16 +42,19 @@ impl<'a> Model for Records<'a> {
 
 impl<'a> Records<'a> {
     /// All records of these bytes.
-    pub(crate) fn new(alloc: Global, bytes: &'a [u8]) -> Records<'a>
-        ensures { result ≡ records_of bytes.now }
+    pub(crate) fn new(alloc: Global, bytes: &'a [u8]) -> Result<Records<'a>, NoMemory>
+        ensures { IfOk result (λ records. records ≡ records_of bytes.now) }
     {
-        let reader = ReaderBuilder::new()
-            .has_headers(false)
+        let mut reader = ReaderBuilder::new()
             .flexible(true)
             .from_reader(alloc, bytes);
-        Records {
-            reader,
-            ended: false,
+        // A reader that was given a header row takes the first record as it comes, and keeps no copy of it.
+        match reader.set_headers(StringRecord::new(alloc)) {
+            Ok(()) => Ok(Records {
+                reader,
+                ended: false,
+            }),
+            Err(_) => Err(NoMemory),
         }
     }
 

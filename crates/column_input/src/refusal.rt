@@ -4,9 +4,10 @@ ghost use Rattle.std.specs.Prelude.{◌≡◌};
 ghost use Rattle.column_input.specs.declared.refusal.TableRefusal.TheVariants as refused;
 
 use no_memory::NoMemory;
-use std::alloc::AllocError;
+use std::alloc::{AllocError, AllocFailed};
+use std::fmt;
 
-/// Why bytes are no table. Records are counted from 1, the header being 1.
+/// Why a file is no table, or no further file of one. Records are counted from 1 within the file, its header being 1.
 ///
 /// Of `NotUtf8` to `TooManyFields` the one of the least record comes, and within a record the one that stands first here.
 #[derive(Clone, Copy, Debug, PartialEq, Eq)]
@@ -17,6 +18,11 @@ pub enum TableRefusal {
     NotUtf8 {
         /// The record.
         number: u64,
+    },
+    /// The first record of a further file isn't the table's header.
+    HeaderDiffers {
+        /// The first place, from 1, where the two differ: a field that is another, or the one after the end of the shorter.
+        field: u64,
     },
     /// The record has another number of fields than the header.
     Ragged {
@@ -32,13 +38,39 @@ pub enum TableRefusal {
         /// How many fields it has.
         columns: u64,
     },
-    /// The records up to and with this one have over 16,777,216 fields together.
+    /// The records up to and with this one, those of the files before among them, have over 16,777,216 fields together.
     TooManyFields {
         /// The record.
         number: u64,
     },
     /// Memory ran out.
     NoMemory,
+}
+
+/// The refusal as a text, as `record 2: not UTF-8`. It doesn't say which file it is of.
+impl fmt::Display for TableRefusal {
+    ghost use Rattle.std.specs.Prelude.{Some};
+    ghost use Rattle.column_input.specs.Text.{refusal_text};
+
+    ghost output = { λ refusal. Some (refusal_text refusal) };
+
+    fn fmt<W: fmt::Write>(&self, f: &mut fmt::Formatter<W>) -> fmt::Result {
+        match *self {
+            TableRefusal::NoHeader => f.write_str("no header"),
+            TableRefusal::NotUtf8 { number } => write!(f, "record {number}: not UTF-8"),
+            TableRefusal::HeaderDiffers { field } => write!(f, "header differs at field {field}"),
+            TableRefusal::Ragged {
+                number,
+                fields,
+                header,
+            } => write!(f, "record {number}: {fields} fields, header has {header}"),
+            TableRefusal::TooManyColumns { columns } => {
+                write!(f, "{columns} columns, at most 1024")
+            }
+            TableRefusal::TooManyFields { number: _ } => f.write_str("over 16777216 fields"),
+            TableRefusal::NoMemory => f.write_str("out of memory"),
+        }
+    }
 }
 
 impl From<NoMemory> for TableRefusal {
@@ -53,6 +85,14 @@ impl From<AllocError> for TableRefusal {
     ghost from_gives = { λ _ refusal. refusal ≡ refused.NoMemory };
 
     fn from(_error: AllocError) -> TableRefusal {
+        TableRefusal::NoMemory
+    }
+}
+
+impl<T: Drop> From<AllocFailed<T>> for TableRefusal {
+    ghost from_gives = { λ _ refusal. refusal ≡ refused.NoMemory };
+
+    fn from(_error: AllocFailed<T>) -> TableRefusal {
         TableRefusal::NoMemory
     }
 }

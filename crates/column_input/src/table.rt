@@ -1,83 +1,160 @@
-//! A table and its columns.
+//! A table.
 
-ghost use Rattle.std.specs.Prelude.{◌≡◌, ◌≢◌, ◌-◌, ◌<◌, ◌≤◌, ◌∷◌, [], ℕ, Err, Some, IfOk, IfErr, IfSome, IsSome, Contains, ◌↔◌, length, slice_get};
-ghost use Rattle.csv.specs.Records.{AllText, fields_of};
-ghost use Rattle.column_input.specs.Limits.{max_columns, max_fields};
-ghost use Rattle.column_input.specs.Table.{column_of, contents, first_refusal_within, table_of, table_within};
+ghost use Rattle.std.specs.Prelude.{◌≡◌, ◌≢◌, ◌+◌, ◌-◌, ◌<◌, ◌≤◌, ◌∷◌, [], Ok, Err, Some, IfOk, OnOk, IfErr, OnErr, IfSome, IsSome, Contains, ◌↔◌, length, slice_get};
+ghost use Rattle.column_input.specs.Chunk.{cell_at};
+ghost use Rattle.column_input.specs.Limits.{max_fields};
+ghost use Rattle.column_input.specs.Table.{appended, appended_within, column_of, contents, table_of, table_within};
 ghost use Rattle.column_input.specs.declared.refusal.TableRefusal.TheVariants as refused;
 
+use crate::MAX_FIELDS;
 use crate::chunk::Chunk;
-use crate::records::{Next, Records};
+use crate::column::Column;
+use crate::header::{pass_header, read_header};
+use crate::limit::FieldLimit;
+use crate::records::Records;
 use crate::refusal::TableRefusal;
-use crate::{MAX_COLUMNS, MAX_FIELDS};
 use csv::StringRecord;
 use std::alloc::Global;
 use std::marker::Model;
 
-/// The header and the rows of a CSV file: texts, each row with one for each column.
+/// The header and the rows of CSV files: texts, each row with one for each column.
 #[derive(Drop)]
 pub struct Table {
     header: StringRecord,
-    chunk: Chunk,
+    /// The rows of each file.
+    chunks: Vec<Chunk>,
+    /// How many rows all files have.
+    rows: u64,
 }
 
 impl Model for Table {
-    ghost use Rattle.std.specs.Prelude.{◌≡◌, ◌<◌, length};
+    ghost use Rattle.std.specs.Prelude.{length};
     ghost use Rattle.csv.specs.Records.{fields_of};
-    ghost use Rattle.column_input.specs.Limits.{max_fields};
-    ghost use Rattle.column_input.specs.Table.{Contents};
+    ghost use Rattle.column_input.specs.Chunk.{joined};
+    ghost use Rattle.column_input.specs.Kept.{IsKept};
+    ghost use Rattle.column_input.specs.Table.{Contents, contents};
 
     ghost Value = { Contents };
 
-    ghost view = { λ a. record { header = fields_of a.header; rows = a.chunk.rows } };
+    ghost view = { λ a. contents (fields_of a.header) (joined a.chunks.items) (length a.chunks.items) };
 
-    ghost invariant = { λ a. (a.chunk.width ≡ length (fields_of a.header)) × (length a.chunk.rows < max_fields) };
+    ghost invariant = { λ a. IsKept (fields_of a.header) a.chunks.items a.rows };
 }
 
 impl Table {
-    /// A table with no column and no row.
+    /// A table with no column and no row, of no file.
     pub fn empty(alloc: Global) -> Table
-        ensures { result ≡ contents [] [] }
+        ensures { result ≡ contents [] [] 0 }
     {
         Table {
             header: StringRecord::new(alloc),
-            chunk: Chunk::new(alloc, 0),
+            chunks: Vec::new(alloc),
+            rows: 0,
         }
     }
 
-    /// The table of these bytes: their records by RFC 4180, the first of which is the header. Lines end in CR, LF or both; one
-    /// byte-order mark is dropped at the very start.
+    /// The table of a file with these bytes: their records by RFC 4180, the first of which is the header. Lines end in CR, LF or
+    /// both; one byte-order mark is dropped at the very start.
     ///
     /// # Errors
     ///
     /// The first refusal of the records, or [`TableRefusal::NoMemory`].
     pub fn read(alloc: Global, bytes: &[u8]) -> Result<Table, TableRefusal>
-        ensures { result ≢ Err refused.NoMemory → result ≡ table_of bytes.now }
+        ensures table { result ≢ Err refused.NoMemory → result ≡ table_of (bytes.now ∷ []) }
+        ensures files { IfOk result (λ table. table.files ≡ 1) }
     {
         Table::read_within(alloc, bytes, MAX_FIELDS)
     }
 
-    /// The same, where the file may have `limit` fields.
-    pub(crate) fn read_within(
+    /// The same, where all files together may have `limit` fields, headers included.
+    ///
+    /// # Errors
+    ///
+    /// Those of [`Table::read`], by this limit.
+    pub fn read_within(alloc: Global, bytes: &[u8], limit: u64) -> Result<Table, TableRefusal>
+        requires limit { limit ≤ max_fields }
+        ensures table { result ≢ Err refused.NoMemory → result ≡ table_within limit (bytes.now ∷ []) }
+        ensures files { IfOk result (λ table. table.files ≡ 1) }
+    {
+        let mut records = Records::new(alloc, bytes)?;
+        let header = read_header(alloc, &mut records, limit)?;
+        let limit = FieldLimit {
+            before: 0,
+            most: limit,
+        };
+        let chunk = Chunk::read(alloc, header.len(), bytes.len(), &mut records, limit)?;
+        let rows = chunk.rows();
+        let mut chunks = Vec::new(alloc);
+        chunks.push(chunk)?;
+        Ok(Table {
+            header,
+            chunks,
+            rows,
+        })
+    }
+
+    /// Reads a further file into the table: the rows are those before, followed by the file's records after its header, which
+    /// has to be the table's. One byte-order mark is dropped at the file's very start.
+    ///
+    /// # Errors
+    ///
+    /// The first refusal of the file's records, or [`TableRefusal::NoMemory`]. The table is as before then.
+    pub fn append(&mut self, alloc: Global, bytes: &[u8]) -> Result<(), TableRefusal>
+        requires read { 0 < self.old.files }
+        ensures rows { OnOk result (appended self.old bytes.now ≡ Ok self.new) }
+        ensures refused { IfErr result (λ refusal. refusal ≢ refused.NoMemory → appended self.old bytes.now ≡ Err refusal) }
+        ensures kept { OnErr result (self.new ≡ self.old) }
+        ensures files { OnOk result (self.new.files ≡ self.old.files + 1) }
+    {
+        self.append_within(alloc, bytes, MAX_FIELDS)
+    }
+
+    /// The same, where all files together may have `limit` fields, headers included.
+    ///
+    /// # Errors
+    ///
+    /// Those of [`Table::append`], by this limit.
+    pub fn append_within(
+        &mut self,
         alloc: Global,
         bytes: &[u8],
         limit: u64,
-    ) -> Result<Table, TableRefusal>
-        requires limit { (max_columns ≤ limit) × (limit ≤ max_fields) }
-        ensures { result ≢ Err refused.NoMemory → result ≡ table_within limit bytes.now }
+    ) -> Result<(), TableRefusal>
+        requires read { 0 < self.old.files }
+        requires limit { limit ≤ max_fields }
+        ensures rows { OnOk result (appended_within limit self.old bytes.now ≡ Ok self.new) }
+        ensures refused { IfErr result (λ refusal. refusal ≢ refused.NoMemory
+            → appended_within limit self.old bytes.now ≡ Err refusal) }
+        ensures kept { OnErr result (self.new ≡ self.old) }
+        ensures files { OnOk result (self.new.files ≡ self.old.files + 1) }
     {
-        let mut records = Records::new(alloc, bytes);
-        let header = read_header(alloc, &mut records)?;
-        let chunk = Chunk::read(alloc, header.len(), &mut records, limit)?;
-        Ok(Table { header, chunk })
+        let width = self.header.len();
+        let limit = FieldLimit {
+            before: (self.chunks.len() as u64 + self.rows) * width as u64,
+            most: limit,
+        };
+        let mut records = Records::new(alloc, bytes)?;
+        pass_header(alloc, &self.header, &mut records, limit)?;
+        let chunk = Chunk::read(alloc, width, bytes.len(), &mut records, limit)?;
+        let rows = chunk.rows();
+        self.chunks.push(chunk)?;
+        self.rows += rows;
+        Ok(())
     }
 
-    /// How many rows there are: the records after the header, fewer than 16,777,216.
+    /// How many files the table was read from.
+    pub fn files(&self) -> u64
+        ensures { result ≡ self.now.files }
+    {
+        self.chunks.len() as u64
+    }
+
+    /// How many rows there are: the records after each file's header, fewer than 16,777,216.
     pub fn rows(&self) -> u64
         ensures count { result ≡ length self.now.rows }
-        ensures bound { result < 16777216 }
+        ensures bound { result < max_fields }
     {
-        self.chunk.rows()
+        self.rows
     }
 
     /// The first column of this name, if there is one.
@@ -88,67 +165,24 @@ impl Table {
     {
         for place in 0..self.header.len() {
             if self.header.get(place) == Some(name) {
-                return Some(Column { table: self, place });
+                return Some(Column::new(self, place));
             }
         }
         None
     }
-}
 
-/// Reads the header, which is record 1.
-fn read_header(alloc: Global, records: &mut Records<'_>) -> Result<StringRecord, TableRefusal>
-    ensures header { IfOk result (λ header. (records.old ≡ fields_of header ∷ records.new) × AllText (fields_of header)) }
-    ensures width { IfOk result (λ header. (0 < length (fields_of header)) × (length (fields_of header) ≤ max_columns)) }
-    ensures refused { IfErr result (λ refusal. refusal ≢ refused.NoMemory → (limit : ℕ) → first_refusal_within limit records.old ≡ Some refusal) }
-{
-    let mut header = StringRecord::new(alloc);
-    match records.next(&mut header)? {
-        Next::End => return Err(TableRefusal::NoHeader),
-        Next::NotUtf8 => return Err(TableRefusal::NotUtf8 { number: 1 }),
-        Next::Record => {}
-    }
-    let columns = header.len() as u64;
-    if columns > MAX_COLUMNS {
-        return Err(TableRefusal::TooManyColumns { columns });
-    }
-    Ok(header)
-}
-
-/// A column of a table: a text for each row.
-#[derive(Drop)]
-pub struct Column<'a> {
-    table: &'a Table,
-    place: usize,
-}
-
-impl<'a> Model for Column<'a> {
-    ghost use Rattle.std.specs.Prelude.{ℕ, List, ◌<◌, length};
-    ghost use Rattle.column_input.specs.Table.{texts_at};
-
-    ghost Value = { List (List ℕ) };
-
-    ghost view = { λ a. texts_at a.table.now a.place };
-
-    ghost invariant = { λ a. a.place < length a.table.now.header };
-}
-
-impl<'a> Column<'a> {
-    /// The text in row `k`, from 1.
-    pub fn text(&self, k: u64) -> &'a str
-        requires from { 1 ≤ k }
-        requires to { k ≤ length self.now }
-        ensures { slice_get self.now (k - 1) ≡ Some result.now }
+    /// The text of a field, by its row and its column from 0.
+    pub(crate) fn text(&self, row: u64, column: usize) -> &str
+        requires row { row < length self.now.rows }
+        requires column { column < length self.now.header }
+        ensures { cell_at self.now.rows row column ≡ Some result.now }
     {
-        let table: &'a Table = self.table;
-        table.chunk.text(k - 1, self.place)
+        let mut file = 0;
+        let mut row = row;
+        while row >= self.chunks[file].rows() {
+            row -= self.chunks[file].rows();
+            file += 1;
+        }
+        self.chunks[file].text(row, column)
     }
-}
-
-/// Whether values of a type are sent to threads and shared by them.
-fn crosses_threads<T: Send + Sync>() {}
-
-/// Threads share a table and its columns.
-fn tables_cross_threads<'a>() {
-    crosses_threads::<Table>();
-    crosses_threads::<Column<'a>>();
 }

@@ -6,7 +6,7 @@ loop-field-preserved c =
     let steps = rw c.in-Some.is at c.next.ensures.steps in
     let same = c.loop-field.invariant.0 in (
       rw steps.0 same,
-      next_appended _ _ _ _ _ _ _ c.loop-field.invariant.1 c.in_ok-push_field.ensures.fields (rw same at steps.1) steps.2,
+      next_appended _ _ _ _ _ _ _ c.loop-field.invariant.1 c.in_ok-push.ensures (rw same at steps.1) steps.2,
     )
 
 pub returns : goal.returns

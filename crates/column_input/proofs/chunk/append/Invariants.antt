@@ -4,4 +4,4 @@ use Rattle.column_input.proofs.chunk.append.Given as goal
 
 abbrev pub invariant-loop-field : goal.invariant-loop-field
 invariant-loop-field l =
-    (l.field-iterator.row.now ≡ l.row) × (fields_of l.fields ≡ fields_of l.initial.fields ++ take l.field-iterator.at (fields_of l.row))
+    (l.field-iterator.row.now ≡ l.row) × (l.fields ≡ l.initial.fields ++ take l.field-iterator.at (fields_of l.row))

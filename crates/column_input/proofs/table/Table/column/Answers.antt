@@ -9,8 +9,8 @@ loop-place-preserved c =
 
 pub returns-then-eq-clause-first : goal.returns-then-eq-clause-first
 returns-then-eq-clause-first c =
-    column_found _ _ _ _ (ap (λ (table : Contents). table.header) (sym c.self.view_is)) (omega arith) c.loop-place.invariant
-    (sym (name_test c.get.result c.args.name _ _ c.get.ensures.value (omega arith)) ∙ sym c.eq.ensures ∙ c.if-eq.true)
+    rw c.new.ensures (column_found c.args.self.now _ _ _ (ap (λ (table : Contents). table.header) (sym c.self.view_is)) (omega arith) c.loop-place.invariant
+    (sym (name_test c.get.result c.args.name _ _ c.get.ensures.value (omega arith)) ∙ sym c.eq.ensures ∙ c.if-eq.true))
 
 pub returns-then-eq-clause-found : goal.returns-then-eq-clause-found
 returns-then-eq-clause-found c = (
@@ -20,7 +20,7 @@ returns-then-eq-clause-found c = (
 )
 
 pub returns-clause-first : goal.returns-clause-first
-returns-clause-first c = column_missing _ _ _ _ (ap (λ (table : Contents). table.header) (sym c.self.view_is)) (omega arith) c.loop-place.invariant
+returns-clause-first c = column_missing c.args.self.now _ _ _ (ap (λ (table : Contents). table.header) (sym c.self.view_is)) (omega arith) c.loop-place.invariant
 
 pub returns-clause-found : goal.returns-clause-found
 returns-clause-found c = (

@@ -1,39 +1,11 @@
-//! What no clause says: that ample memory is enough, and that the records are those that RFC 4180 and its readers mean.
+//! One file: its records, its header, and each refusal.
 
+use super::{lines, shown};
 use column_input::{Table, TableRefusal};
-use std::alloc::{AllocError, Global};
 use std::test::Fail;
 
-/// The texts of a column, a bar before each, or `none`.
-fn shown(alloc: Global, table: &Table, name: &str) -> Result<String, AllocError> {
-    let mut out = String::new(alloc);
-    match table.column(name) {
-        Some(column) => {
-            for k in 0..table.rows() {
-                out.push_str("|")?;
-                out.push_str(column.text(k + 1))?;
-            }
-        }
-        None => out.push_str("none")?,
-    }
-    Ok(out)
-}
-
-/// So many lines of so many fields.
-fn lines(alloc: Global, count: u64, fields: u64) -> Result<Vec<u8>, AllocError> {
-    let mut bytes = Vec::new(alloc);
-    for _ in 0..count {
-        bytes.extend_from_slice(b"x")?;
-        for _ in 1..fields {
-            bytes.extend_from_slice(b",x")?;
-        }
-        bytes.extend_from_slice(b"\n")?;
-    }
-    Ok(bytes)
-}
-
 /// Bytes, the name of a column, and its texts.
-static COLUMNS: [(&[u8], &str, &str); 28] = [
+static COLUMNS: [(&[u8], &str, &str); 29] = [
     // Line ends.
     (b"a,b\n1,2\n3,4\n", "a", "|1|3"),
     (b"a,b\r\n1,2\r\n3,4\r\n", "b", "|2|4"),
@@ -69,6 +41,7 @@ static COLUMNS: [(&[u8], &str, &str); 28] = [
     (b"a,a,b\n1,2,3\n", "a", "|1"),
     (b"a,b,a\n1,2,3\n", "b", "|2"),
     (b"\"q\"\"r\",s\n1,2\n", "q\"r", "|1"),
+    (b"\"a,b\n1,2\n", "a,b\n1,2\n", ""),
     (b"n\xC3\xA4me\nM\xC3\xBCller\n", "n\u{E4}me", "|M\u{FC}ller"),
 ];
 
@@ -164,6 +137,22 @@ fn takes_1024_columns(rt: HostRuntime) -> Result<(), Fail> {
     let refusal = TableRefusal::TooManyColumns { columns: 1025 };
     assert_eq!(rt;
         Table::read(rt.alloc(), over.as_slice()).err(),
+        Some(refusal)
+    );
+    Ok(())
+}
+
+#[test]
+fn takes_as_many_fields_as_the_limit(rt: HostRuntime) -> Result<(), Fail> {
+    let most = lines(rt.alloc(), 4, 256)?;
+    assert_eq!(rt;
+        Table::read_within(rt.alloc(), most.as_slice(), 1024).err(),
+        None
+    );
+    let over = lines(rt.alloc(), 5, 256)?;
+    let refusal = TableRefusal::TooManyFields { number: 5 };
+    assert_eq!(rt;
+        Table::read_within(rt.alloc(), over.as_slice(), 1024).err(),
         Some(refusal)
     );
     Ok(())
