@@ -177,6 +177,8 @@ impl Reducer for AtLeast {
 
     ghost is_free = { λ _. Unit {0} };
 
+    ghost unit_is_free = { λ _. Unit {0} };
+
     fn unit(&self, _alloc: Global) -> Result<u64, NoMemory> {
         Ok(0)
     }
