@@ -1,8 +1,8 @@
 //! The values of names.
 
-use crate::tests::{gives_text, number_of};
-use crate::{int, name, two};
-use loop_values::{Env, Expr, Op, TextValue, Value};
+use crate::tests::trees::{name, text_value, two, value_of};
+use loop_data::{Expr, Op, Value};
+use loop_values::Env;
 use no_memory::NoMemory;
 use std::alloc::Global;
 use std::test::Fail;
@@ -11,7 +11,7 @@ use std::test::Fail;
 fn bound(alloc: Global) -> Result<Env, NoMemory> {
     let mut env = Env::new(alloc);
     env.bind(alloc, "n", Value::Int(2))?;
-    env.bind(alloc, "t", Value::Text(TextValue::new(alloc, "two")?))?;
+    env.bind(alloc, "t", text_value(alloc, "two")?)?;
     env.bind(alloc, "n", Value::Int(3))?;
     env.bind(alloc, "place", Value::Int(8))?;
     Ok(env)
@@ -25,9 +25,9 @@ fn names_and_the_place(rt: HostRuntime) -> Result<(), Fail> {
     assert!(rt; env.get("m").is_none());
     assert!(rt; env.get("").is_none());
     let sum = two(alloc, Op::Add, name(alloc, "n"), Ok(Expr::Place));
-    assert_eq!(rt; number_of(alloc, sum, &env), Ok(Some(11)));
-    assert_eq!(rt; gives_text(alloc, name(alloc, "t"), &env, "two"), Ok(true));
-    assert_eq!(rt; number_of(alloc, name(alloc, "t"), &env), Ok(None));
+    assert_eq!(rt; value_of(alloc, sum, &env), Ok(Value::Int(11)));
+    let named = value_of(alloc, name(alloc, "t"), &env);
+    assert_eq!(rt; named, Ok(text_value(alloc, "two")?));
     Ok(())
 }
 
@@ -40,7 +40,8 @@ fn a_copy_has_the_same_bindings(rt: HostRuntime) -> Result<(), Fail> {
     assert_eq!(rt; copy.get("n"), Some(&Value::Int(3)));
     assert_eq!(rt; env.get("n"), Some(&Value::Int(4)));
     assert_eq!(rt; copy.get("place"), Some(&Value::Int(8)));
-    assert_eq!(rt; gives_text(alloc, name(alloc, "t"), &copy, "two"), Ok(true));
+    let named = value_of(alloc, name(alloc, "t"), &copy);
+    assert_eq!(rt; named, Ok(text_value(alloc, "two")?));
     assert!(rt; copy.get("m").is_none());
     Ok(())
 }

@@ -1,30 +1,8 @@
-//! The data of the loop language: copies, texts short and long, lists and boxes.
+//! The data of the loop language: texts short and long, lists and boxes.
 
-use loop_data::{Boxed, Kind, Many, TextValue, Value, ValueKind};
-use no_memory::NoMemory;
-use std::alloc::Global;
+use loop_data::{Boxed, Many, TextValue};
 use std::collections::BTreeMap;
 use std::test::Fail;
-
-fn text(alloc: Global, t: &str) -> Result<TextValue, NoMemory> {
-    TextValue::new(alloc, t)
-}
-
-#[test]
-fn copies_of_values_and_kinds(rt: HostRuntime) -> Result<(), Fail> {
-    let alloc = rt.alloc();
-    let mut parts = Many::new(alloc);
-    parts.push(alloc, Value::Int(1))?;
-    parts.push(alloc, Value::Text(text(alloc, "a")?))?;
-    let value = Value::Tuple(parts);
-    assert_eq!(rt; value.copy(alloc)?, value);
-    let kind = ValueKind::Maybe(Boxed::new(alloc, ValueKind::Text)?);
-    assert_eq!(rt; kind.copy(alloc)?, kind);
-    let tower = Kind::Grouped(Boxed::new(alloc, Kind::LeastAt)?);
-    assert_eq!(rt; tower.copy(alloc)?, tower);
-    assert_ne!(rt; tower, Kind::Sum);
-    Ok(())
-}
 
 #[test]
 fn texts_short_and_long(rt: HostRuntime) -> Result<(), Fail> {
@@ -37,7 +15,7 @@ fn texts_short_and_long(rt: HostRuntime) -> Result<(), Fail> {
     ] {
         let joined = TextValue::joined(alloc, left, right)?;
         assert_eq!(rt; joined.as_str(), whole);
-        assert_eq!(rt; joined.copy(alloc)?, text(alloc, whole)?);
+        assert_eq!(rt; joined.copy(alloc)?, TextValue::new(alloc, whole)?);
     }
     assert_eq!(rt;
         TextValue::from_int(alloc, i64::MIN)?.as_str(),
@@ -51,7 +29,7 @@ fn texts_are_keys_by_their_bytes(rt: HostRuntime) -> Result<(), Fail> {
     let alloc = rt.alloc();
     let mut tree = BTreeMap::new(alloc);
     for (k, v) in [("b", 1), ("\u{e9}", 2), ("B", 3), ("ba", 4), ("b", 5)] {
-        tree.insert(text(alloc, k)?, v)?;
+        tree.insert(TextValue::new(alloc, k)?, v)?;
     }
     let mut listed = String::new(alloc);
     for (k, v) in &tree {

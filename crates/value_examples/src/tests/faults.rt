@@ -1,23 +1,14 @@
 //! Which parts are evaluated, in which order, and which fault is the answer.
 
-use crate::tests::{gives_nothing, number_of, truth_of};
-use crate::{call, chosen, chosen_some, int, negated, not, pair, text, truth, two};
-use loop_values::{Env, EvalStop, Expr, Op, Word};
-use no_memory::NoMemory;
+use crate::tests::trees::{
+    Made, call, chosen, divided, int, misspelt, negated, not, pair, truth, two, value_of,
+};
+use loop_data::{Op, Value, Word};
+use loop_values::{Env, EvalStop};
 use std::alloc::Global;
 
-/// `1 div 0`, whose fault is `DivideError`.
-fn divided(alloc: Global) -> Result<Expr, NoMemory> {
-    two(alloc, Op::Div, int(1), int(0))
-}
-
-/// `int("x")`, whose fault is `NotANumber`.
-fn misspelt(alloc: Global) -> Result<Expr, NoMemory> {
-    call(alloc, Word::Int, text(alloc, "x"))
-}
-
 /// `1 div 0 == 0`, a condition with a fault.
-fn faulty(alloc: Global) -> Result<Expr, NoMemory> {
+fn faulty(alloc: Global) -> Made {
     two(alloc, Op::Eq, divided(alloc), int(0))
 }
 
@@ -26,14 +17,14 @@ fn the_left_side_may_decide(rt: HostRuntime) {
     let alloc = rt.alloc();
     let env = Env::new(alloc);
     for (left, op, want) in [
-        (false, Op::And, Ok(Some(false))),
-        (true, Op::Or, Ok(Some(true))),
+        (false, Op::And, Ok(Value::Bool(false))),
+        (true, Op::Or, Ok(Value::Bool(true))),
         (true, Op::And, Err(EvalStop::DivideError)),
         (false, Op::Or, Err(EvalStop::DivideError)),
     ] {
-        let got = truth_of(alloc, two(alloc, op, truth(left), faulty(alloc)), &env);
+        let got = value_of(alloc, two(alloc, op, truth(left), faulty(alloc)), &env);
         assert_eq!(rt; got, want, "{left} {op:?}");
-        let got = truth_of(alloc, two(alloc, op, faulty(alloc), truth(left)), &env);
+        let got = value_of(alloc, two(alloc, op, faulty(alloc), truth(left)), &env);
         assert_eq!(rt; got, Err(EvalStop::DivideError), "{op:?} {left}");
     }
 }
@@ -54,14 +45,14 @@ fn the_first_fault_is_the_answer(rt: HostRuntime) {
         Op::Eq,
         Op::Lt,
     ] {
-        let got = number_of(alloc, two(alloc, op, divided(alloc), misspelt(alloc)), &env);
+        let got = value_of(alloc, two(alloc, op, divided(alloc), misspelt(alloc)), &env);
         assert_eq!(rt; got, Err(EvalStop::DivideError), "{op:?}");
-        let got = number_of(alloc, two(alloc, op, misspelt(alloc), divided(alloc)), &env);
+        let got = value_of(alloc, two(alloc, op, misspelt(alloc), divided(alloc)), &env);
         assert_eq!(rt; got, Err(EvalStop::NotANumber), "{op:?}");
     }
-    let got = number_of(alloc, pair(alloc, divided(alloc), misspelt(alloc)), &env);
+    let got = value_of(alloc, pair(alloc, divided(alloc), misspelt(alloc)), &env);
     assert_eq!(rt; got, Err(EvalStop::DivideError));
-    let got = number_of(alloc, pair(alloc, int(1), misspelt(alloc)), &env);
+    let got = value_of(alloc, pair(alloc, int(1), misspelt(alloc)), &env);
     assert_eq!(rt; got, Err(EvalStop::NotANumber));
 }
 
@@ -69,11 +60,11 @@ fn the_first_fault_is_the_answer(rt: HostRuntime) {
 fn faults_of_single_parts(rt: HostRuntime) {
     let alloc = rt.alloc();
     let env = Env::new(alloc);
-    let got = number_of(alloc, negated(alloc, divided(alloc)), &env);
+    let got = value_of(alloc, negated(alloc, divided(alloc)), &env);
     assert_eq!(rt; got, Err(EvalStop::DivideError));
-    let got = truth_of(alloc, not(alloc, faulty(alloc)), &env);
+    let got = value_of(alloc, not(alloc, faulty(alloc)), &env);
     assert_eq!(rt; got, Err(EvalStop::DivideError));
-    let got = number_of(alloc, call(alloc, Word::Text, misspelt(alloc)), &env);
+    let got = value_of(alloc, call(alloc, Word::Text, misspelt(alloc)), &env);
     assert_eq!(rt; got, Err(EvalStop::NotANumber));
 }
 
@@ -81,34 +72,21 @@ fn faults_of_single_parts(rt: HostRuntime) {
 fn the_chosen_side_alone(rt: HostRuntime) {
     let alloc = rt.alloc();
     let env = Env::new(alloc);
-    for (test, want) in [(true, Ok(Some(1))), (false, Err(EvalStop::DivideError))] {
-        let got = number_of(
-            alloc,
-            chosen(alloc, truth(test), int(1), divided(alloc)),
-            &env,
-        );
-        assert_eq!(rt; got, want, "{test}");
-        let got = number_of(
-            alloc,
-            chosen(alloc, truth(!test), divided(alloc), int(1)),
-            &env,
-        );
-        assert_eq!(rt; got, want, "{test}");
+    for (test, want) in [
+        (true, Ok(Value::Int(1))),
+        (false, Err(EvalStop::DivideError)),
+    ] {
+        let tree = chosen(alloc, truth(test), int(1), Some(divided(alloc)));
+        assert_eq!(rt; value_of(alloc, tree, &env), want, "{test}");
+        let tree = chosen(alloc, truth(!test), divided(alloc), Some(int(1)));
+        assert_eq!(rt; value_of(alloc, tree, &env), want, "not {test}");
     }
-    let got = number_of(
-        alloc,
-        chosen(alloc, faulty(alloc), int(1), misspelt(alloc)),
-        &env,
-    );
-    assert_eq!(rt; got, Err(EvalStop::DivideError));
-    let got = number_of(alloc, chosen_some(alloc, truth(true), int(1)), &env);
-    assert_eq!(rt; got, Ok(Some(1)));
-    let got = gives_nothing(
-        alloc,
-        chosen_some(alloc, truth(false), divided(alloc)),
-        &env,
-    );
-    assert_eq!(rt; got, Ok(true));
+    let tree = chosen(alloc, faulty(alloc), int(1), Some(misspelt(alloc)));
+    assert_eq!(rt; value_of(alloc, tree, &env), Err(EvalStop::DivideError));
+    let tree = chosen(alloc, truth(true), int(1), None);
+    assert_eq!(rt; value_of(alloc, tree, &env), Ok(Value::Int(1)));
+    let tree = chosen(alloc, truth(false), divided(alloc), None);
+    assert_eq!(rt; value_of(alloc, tree, &env), Ok(Value::Nothing));
 }
 
 #[test]

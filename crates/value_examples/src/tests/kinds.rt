@@ -1,10 +1,11 @@
 //! The kinds of expressions. A kind is told by the letter of its name: `i` for Int, `b` for Bool, `t` for Text, `p` for the
 //! pair of an Int and a Text, `m` for Maybe of an Int.
 
-use crate::{call, chosen, chosen_some, int, name, negated, not, pair, text, truth, two};
-use loop_values::{
-    Boxed, Expr, Many, Op, TypeStop, Types, Value, ValueKind, Word, is_same_kind, type_of,
+use crate::tests::trees::{
+    Made, and, boxed, call, chosen, int, name, negated, not, one, pair, text, truth, two,
 };
+use loop_data::{Expr, Many, Op, Value, ValueKind, Word};
+use loop_values::{TypeStop, Types, is_same_kind, type_of};
 use no_memory::NoMemory;
 use std::alloc::Global;
 use std::test::Fail;
@@ -16,14 +17,12 @@ fn pair_of(
     first: Result<ValueKind, NoMemory>,
     second: Result<ValueKind, NoMemory>,
 ) -> Result<ValueKind, NoMemory> {
-    let mut parts = Many::new(alloc);
-    parts.push(alloc, first?)?;
-    parts.push(alloc, second?)?;
+    let parts = and(alloc, one(alloc, first), second)?;
     Ok(ValueKind::Tuple(parts))
 }
 
 fn maybe_of(alloc: Global, kind: Result<ValueKind, NoMemory>) -> Result<ValueKind, NoMemory> {
-    Ok(ValueKind::Maybe(Boxed::new(alloc, kind?)?))
+    Ok(ValueKind::Maybe(boxed(alloc, kind)?))
 }
 
 fn kind_of(alloc: Global, letter: &str) -> Result<ValueKind, NoMemory> {
@@ -56,11 +55,7 @@ fn letter_of(kind: &ValueKind) -> &'static str {
 }
 
 /// The letter of a tree's kind.
-fn typed(
-    alloc: Global,
-    tree: Result<Expr, NoMemory>,
-    names: &Types,
-) -> Result<&'static str, TypeStop> {
+fn typed(alloc: Global, tree: Made, names: &Types) -> Result<&'static str, TypeStop> {
     let kind = type_of(alloc, &tree?, names)?;
     Ok(letter_of(&kind))
 }
@@ -68,7 +63,7 @@ fn typed(
 /// Whether a tree has this kind.
 fn has_kind(
     alloc: Global,
-    tree: Result<Expr, NoMemory>,
+    tree: Made,
     names: &Types,
     want: Result<ValueKind, NoMemory>,
 ) -> Result<bool, TypeStop> {
@@ -174,7 +169,12 @@ fn kinds_of_choices(rt: HostRuntime) -> Result<(), Fail> {
                 } else {
                     Err(TypeStop::Differs)
                 };
-                let tree = chosen(alloc, name(alloc, test), name(alloc, yes), name(alloc, no));
+                let tree = chosen(
+                    alloc,
+                    name(alloc, test),
+                    name(alloc, yes),
+                    Some(name(alloc, no)),
+                );
                 assert_eq!(rt;
                     typed(alloc, tree, &names),
                     want,
@@ -186,7 +186,7 @@ fn kinds_of_choices(rt: HostRuntime) -> Result<(), Fail> {
             } else {
                 Err(TypeStop::Differs)
             };
-            let tree = chosen_some(alloc, name(alloc, test), name(alloc, yes));
+            let tree = chosen(alloc, name(alloc, test), name(alloc, yes), None);
             assert_eq!(rt; typed(alloc, tree, &names), want, "if {test} then {yes}");
         }
     }
@@ -218,7 +218,7 @@ fn kinds_of_pairs(rt: HostRuntime) -> Result<(), Fail> {
 }
 
 /// A tuple of so many ones.
-fn ones(alloc: Global, count: usize) -> Result<Expr, NoMemory> {
+fn ones(alloc: Global, count: usize) -> Made {
     let mut parts = Many::new(alloc);
     for _ in 0..count {
         parts.push(alloc, Expr::Lit(Value::Int(1)))?;
@@ -251,13 +251,13 @@ fn maybe_stands_outside_alone(rt: HostRuntime) -> Result<(), Fail> {
     let names = letters(alloc)?;
     // Nothing more may be nothing: the kind is Maybe of an Int still.
     let tried = call(alloc, Word::TryInt, name(alloc, "t"));
-    let tree = chosen_some(alloc, name(alloc, "b"), tried);
+    let tree = chosen(alloc, name(alloc, "b"), tried, None);
     assert_eq!(rt;
         has_kind(alloc, tree, &names, kind_of(alloc, "m")),
         Ok(true)
     );
     // Of a pair it is Maybe of the pair.
-    let tree = chosen_some(alloc, name(alloc, "b"), name(alloc, "p"));
+    let tree = chosen(alloc, name(alloc, "b"), name(alloc, "p"), None);
     let kind = maybe_of(alloc, kind_of(alloc, "p"));
     assert_eq!(rt; has_kind(alloc, tree, &names, kind), Ok(true));
     // Deep inside a tuple it is refused too.

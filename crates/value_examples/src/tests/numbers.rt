@@ -1,8 +1,8 @@
 //! Operations on numbers and truth values.
 
-use crate::tests::{number_of, truth_of};
-use crate::{call, int, negated, not, truth, two};
-use loop_values::{Env, EvalStop, Op, Word};
+use crate::tests::trees::{call, int, negated, not, truth, two, value_of};
+use loop_data::{Op, Value, Word};
+use loop_values::{Env, EvalStop};
 
 const LEAST: i64 = -9223372036854775808;
 
@@ -84,8 +84,8 @@ fn operations_of_two_numbers(rt: HostRuntime) {
     let env = Env::new(alloc);
     for case in &ARITHMETIC {
         let (left, op, right, want) = *case;
-        let got = number_of(alloc, two(alloc, op, int(left), int(right)), &env);
-        assert_eq!(rt; got, want.map(Some), "{left} {op:?} {right}");
+        let got = value_of(alloc, two(alloc, op, int(left), int(right)), &env);
+        assert_eq!(rt; got, want.map(Value::Int), "{left} {op:?} {right}");
     }
 }
 
@@ -105,10 +105,10 @@ fn minus_and_abs(rt: HostRuntime) {
     let env = Env::new(alloc);
     for case in &SIGNS {
         let (n, minus, abs) = *case;
-        let got = number_of(alloc, negated(alloc, int(n)), &env);
-        assert_eq!(rt; got, Ok(Some(minus)), "minus {n}");
-        let got = number_of(alloc, call(alloc, Word::Abs, int(n)), &env);
-        assert_eq!(rt; got, Ok(Some(abs)), "abs {n}");
+        let got = value_of(alloc, negated(alloc, int(n)), &env);
+        assert_eq!(rt; got, Ok(Value::Int(minus)), "minus {n}");
+        let got = value_of(alloc, call(alloc, Word::Abs, int(n)), &env);
+        assert_eq!(rt; got, Ok(Value::Int(abs)), "abs {n}");
     }
 }
 
@@ -136,8 +136,8 @@ fn comparisons_of_numbers(rt: HostRuntime) {
             (Op::Gt, !less && !equal),
             (Op::Ge, !less),
         ] {
-            let got = truth_of(alloc, two(alloc, op, int(a), int(b)), &env);
-            assert_eq!(rt; got, Ok(Some(want)), "{a} {op:?} {b}");
+            let got = value_of(alloc, two(alloc, op, int(a), int(b)), &env);
+            assert_eq!(rt; got, Ok(Value::Bool(want)), "{a} {op:?} {b}");
         }
     }
 }
@@ -153,10 +153,10 @@ fn operations_on_truth_values(rt: HostRuntime) {
             (Op::Eq, a == b),
             (Op::Ne, a != b),
         ] {
-            let got = truth_of(alloc, two(alloc, op, truth(a), truth(b)), &env);
-            assert_eq!(rt; got, Ok(Some(want)), "{a} {op:?} {b}");
+            let got = value_of(alloc, two(alloc, op, truth(a), truth(b)), &env);
+            assert_eq!(rt; got, Ok(Value::Bool(want)), "{a} {op:?} {b}");
         }
-        let got = truth_of(alloc, not(alloc, truth(a)), &env);
-        assert_eq!(rt; got, Ok(Some(!a)), "not {a}");
+        let got = value_of(alloc, not(alloc, truth(a)), &env);
+        assert_eq!(rt; got, Ok(Value::Bool(!a)), "not {a}");
     }
 }

@@ -1,7 +1,10 @@
 //! Inner ranges: how many items, and which refusal.
 
-use crate::{call, int, name, text, two};
-use loop_values::{Env, EvalStop, Expr, InnerRange, Op, RangeExpr, Value, Word, eval_range};
+ghost use Rattle.std.specs.Prelude.{◌≤◌};
+
+use crate::tests::trees::{Made, divided, int, misspelt, name};
+use loop_data::{RangeExpr, Value};
+use loop_values::{Env, EvalStop, InnerRange, eval_range};
 use no_memory::NoMemory;
 use std::alloc::Global;
 use std::test::Fail;
@@ -10,20 +13,30 @@ const LEAST: i64 = -9223372036854775808;
 
 const MOST: i64 = 9223372036854775807;
 
-fn number(n: i64) -> Expr {
-    Expr::Lit(Value::Int(n))
-}
-
-fn of_numbers(first: i64, step: Option<i64>, last: i64) -> RangeExpr {
+/// A range of bounds, each of which may have been refused.
+fn range(first: Made, step: Option<Made>, last: Made) -> Result<RangeExpr, NoMemory> {
     let step = match step {
-        Some(n) => Some(number(n)),
+        Some(step) => Some(step?),
         None => None,
     };
-    RangeExpr {
-        first: number(first),
+    Ok(RangeExpr {
+        first: first?,
         step,
-        last: number(last),
-    }
+        last: last?,
+    })
+}
+
+/// The triple of a range, or its refusal, after so many body runs.
+fn inner(
+    alloc: Global,
+    range: Result<RangeExpr, NoMemory>,
+    env: &Env,
+    width: u64,
+) -> Result<InnerRange, EvalStop>
+    requires least { 1 ≤ width }
+    requires most { width ≤ 1000000 }
+{
+    eval_range(alloc, &range?, env, width)
 }
 
 /// First, step and last, how many body runs the item has already, and the number of items or the refusal.
@@ -89,46 +102,12 @@ fn counts_of_ranges(rt: HostRuntime) {
     for case in &COUNTS {
         let (first, step, last, width, want) = *case;
         assert!(rt; 1 <= width && width <= 1000000);
-        let got = eval_range(alloc, &of_numbers(first, step, last), &env, width);
-        let by = step.unwrap_or(1);
-        let want = match want {
-            Ok(count) => Ok(InnerRange {
-                first,
-                step: by,
-                count,
-            }),
-            Err(stop) => Err(stop),
-        };
-        assert_eq!(rt; got, want, "{first}:{step:?}:{last} after {width}");
+        let tree = range(int(first), step.map(int), int(last));
+        let got = inner(alloc, tree, &env, width);
+        let step = step.unwrap_or(1);
+        let want = want.map(|count| InnerRange { first, step, count });
+        assert_eq!(rt; got, want, "{first}:{step}:{last} after {width}");
     }
-}
-
-/// A range of three bounds, each of which may have been refused.
-fn of_bounds(
-    first: Result<Expr, NoMemory>,
-    step: Result<Expr, NoMemory>,
-    last: Result<Expr, NoMemory>,
-) -> Result<RangeExpr, NoMemory> {
-    Ok(RangeExpr {
-        first: first?,
-        step: Some(step?),
-        last: last?,
-    })
-}
-
-/// How many items a range has, or its refusal.
-fn count(alloc: Global, range: Result<RangeExpr, NoMemory>, env: &Env) -> Result<u64, EvalStop> {
-    Ok(eval_range(alloc, &range?, env, 1)?.count)
-}
-
-/// `1 div 0`, whose fault is `DivideError`.
-fn divided(alloc: Global) -> Result<Expr, NoMemory> {
-    two(alloc, Op::Div, int(1), int(0))
-}
-
-/// `int("x")`, whose fault is `NotANumber`.
-fn misspelt(alloc: Global) -> Result<Expr, NoMemory> {
-    call(alloc, Word::Int, text(alloc, "x"))
 }
 
 #[test]
@@ -136,14 +115,19 @@ fn bounds_from_left_to_right(rt: HostRuntime) -> Result<(), Fail> {
     let alloc = rt.alloc();
     let mut env = Env::new(alloc);
     env.bind(alloc, "x", Value::Int(9))?;
-    let range = of_bounds(int(1), int(2), name(alloc, "x"));
-    assert_eq!(rt; count(alloc, range, &env), Ok(5));
-    let range = of_bounds(divided(alloc), misspelt(alloc), int(1));
-    assert_eq!(rt; count(alloc, range, &env), Err(EvalStop::DivideError));
-    let range = of_bounds(int(1), misspelt(alloc), divided(alloc));
-    assert_eq!(rt; count(alloc, range, &env), Err(EvalStop::NotANumber));
+    let tree = range(int(1), Some(int(2)), name(alloc, "x"));
+    let want = InnerRange {
+        first: 1,
+        step: 2,
+        count: 5,
+    };
+    assert_eq!(rt; inner(alloc, tree, &env, 1), Ok(want));
+    let tree = range(divided(alloc), Some(misspelt(alloc)), int(1));
+    assert_eq!(rt; inner(alloc, tree, &env, 1), Err(EvalStop::DivideError));
+    let tree = range(int(1), Some(misspelt(alloc)), divided(alloc));
+    assert_eq!(rt; inner(alloc, tree, &env, 1), Err(EvalStop::NotANumber));
     // The last bound's fault comes before the step of 0.
-    let range = of_bounds(int(1), int(0), divided(alloc));
-    assert_eq!(rt; count(alloc, range, &env), Err(EvalStop::DivideError));
+    let tree = range(int(1), Some(int(0)), divided(alloc));
+    assert_eq!(rt; inner(alloc, tree, &env, 1), Err(EvalStop::DivideError));
     Ok(())
 }

@@ -1,10 +1,9 @@
 //! Operations on texts, and the numbers that texts spell.
 
-use crate::tests::{gives_nothing, gives_text, number_of, truth_of};
-use crate::{call, chosen_some, int, name, text, truth, two};
-use loop_values::{Env, EvalStop, Expr, Op, TextValue, Value, Word};
-use no_memory::NoMemory;
-use std::alloc::{AllocError, Global};
+use crate::tests::trees::{call, chosen, int, text, text_value, truth, two, value_of};
+use loop_data::{Op, Value, Word};
+use loop_values::{Env, EvalStop};
+use std::test::Fail;
 
 /// Two texts, the first smaller by its bytes.
 static RISING: [(&str, &str); 8] = [
@@ -35,18 +34,18 @@ fn comparisons_of_texts(rt: HostRuntime) {
             (Op::Gt, false, true, false),
             (Op::Ge, false, true, true),
         ] {
-            let got = truth_of(alloc, two(alloc, op, text(alloc, a), text(alloc, b)), &env);
-            assert_eq!(rt; got, Ok(Some(up)), "{a} {op:?} {b}");
-            let got = truth_of(alloc, two(alloc, op, text(alloc, b), text(alloc, a)), &env);
-            assert_eq!(rt; got, Ok(Some(down)), "{b} {op:?} {a}");
-            let got = truth_of(alloc, two(alloc, op, text(alloc, a), text(alloc, a)), &env);
-            assert_eq!(rt; got, Ok(Some(same)), "{a} {op:?} {a}");
+            let got = value_of(alloc, two(alloc, op, text(alloc, a), text(alloc, b)), &env);
+            assert_eq!(rt; got, Ok(Value::Bool(up)), "{a} {op:?} {b}");
+            let got = value_of(alloc, two(alloc, op, text(alloc, b), text(alloc, a)), &env);
+            assert_eq!(rt; got, Ok(Value::Bool(down)), "{b} {op:?} {a}");
+            let got = value_of(alloc, two(alloc, op, text(alloc, a), text(alloc, a)), &env);
+            assert_eq!(rt; got, Ok(Value::Bool(same)), "{a} {op:?} {a}");
         }
     }
 }
 
 #[test]
-fn joins_and_lengths_in_bytes(rt: HostRuntime) {
+fn joins_and_lengths_in_bytes(rt: HostRuntime) -> Result<(), Fail> {
     let alloc = rt.alloc();
     let env = Env::new(alloc);
     for (left, right, whole, len) in [
@@ -62,19 +61,17 @@ fn joins_and_lengths_in_bytes(rt: HostRuntime) {
             30,
         ),
     ] {
-        let joined = two(alloc, Op::Join, text(alloc, left), text(alloc, right));
-        assert_eq!(rt;
-            gives_text(alloc, joined, &env, whole),
-            Ok(true),
-            "{left} & {right}"
-        );
-        let got = number_of(alloc, call(alloc, Word::Len, text(alloc, whole)), &env);
-        assert_eq!(rt; got, Ok(Some(len)), "len {whole}");
+        let tree = two(alloc, Op::Join, text(alloc, left), text(alloc, right));
+        let want = Ok(text_value(alloc, whole)?);
+        assert_eq!(rt; value_of(alloc, tree, &env), want, "{left} & {right}");
+        let got = value_of(alloc, call(alloc, Word::Len, text(alloc, whole)), &env);
+        assert_eq!(rt; got, Ok(Value::Int(len)), "len {whole}");
     }
+    Ok(())
 }
 
 #[test]
-fn texts_of_values(rt: HostRuntime) {
+fn texts_of_values(rt: HostRuntime) -> Result<(), Fail> {
     let alloc = rt.alloc();
     let env = Env::new(alloc);
     for (n, want) in [
@@ -84,65 +81,40 @@ fn texts_of_values(rt: HostRuntime) {
         (9223372036854775807, "9223372036854775807"),
         (-9223372036854775808, "-9223372036854775808"),
     ] {
-        let got = gives_text(alloc, call(alloc, Word::Text, int(n)), &env, want);
-        assert_eq!(rt; got, Ok(true), "{n}");
+        let got = value_of(alloc, call(alloc, Word::Text, int(n)), &env);
+        assert_eq!(rt; got, Ok(text_value(alloc, want)?), "{n}");
     }
     for (b, want) in [(true, "true"), (false, "false")] {
-        let got = gives_text(alloc, call(alloc, Word::Text, truth(b)), &env, want);
-        assert_eq!(rt; got, Ok(true), "{b}");
+        let got = value_of(alloc, call(alloc, Word::Text, truth(b)), &env);
+        assert_eq!(rt; got, Ok(text_value(alloc, want)?), "{b}");
     }
     for t in ["", "a \"quoted\" text", "\u{e9}"] {
-        let got = gives_text(alloc, call(alloc, Word::Text, text(alloc, t)), &env, t);
-        assert_eq!(rt; got, Ok(true), "{t}");
+        let got = value_of(alloc, call(alloc, Word::Text, text(alloc, t)), &env);
+        assert_eq!(rt; got, Ok(text_value(alloc, t)?), "{t}");
     }
-}
-
-/// So many bytes of `a`.
-fn long_text(alloc: Global, bytes: u64) -> Result<String, AllocError> {
-    let mut long = String::new(alloc);
-    for _ in 0..bytes {
-        long.push_str("a")?;
-    }
-    Ok(long)
-}
-
-/// A text of so many bytes bound to a name.
-fn bind_long(alloc: Global, env: &mut Env, name: &str, bytes: u64) -> Result<(), NoMemory> {
-    let long = long_text(alloc, bytes)?;
-    env.bind(
-        alloc,
-        name,
-        Value::Text(TextValue::new(alloc, long.as_str())?),
-    )
-}
-
-/// The length of what `&` makes of two texts of so many bytes, or its fault.
-fn joined_len(alloc: Global, left: u64, right: u64) -> Result<Option<i64>, EvalStop> {
-    let mut env = Env::new(alloc);
-    bind_long(alloc, &mut env, "a", left)?;
-    bind_long(alloc, &mut env, "b", right)?;
-    let joined = two(alloc, Op::Join, name(alloc, "a"), name(alloc, "b"));
-    number_of(alloc, call(alloc, Word::Len, joined), &env)
+    Ok(())
 }
 
 #[test]
-fn a_text_at_the_limit(rt: HostRuntime) {
+fn a_text_at_the_limit(rt: HostRuntime) -> Result<(), Fail> {
+    let alloc = rt.alloc();
+    let env = Env::new(alloc);
     for (left, right, want) in [
-        (1048576, 0, Ok(Some(1048576))),
-        (0, 1048576, Ok(Some(1048576))),
-        (1048575, 1, Ok(Some(1048576))),
-        (524288, 524288, Ok(Some(1048576))),
+        (1048576, 0, Ok(Value::Int(1048576))),
+        (0, 1048576, Ok(Value::Int(1048576))),
+        (1048575, 1, Ok(Value::Int(1048576))),
+        (524288, 524288, Ok(Value::Int(1048576))),
         (1048576, 1, Err(EvalStop::TextTooLong)),
         (1, 1048576, Err(EvalStop::TextTooLong)),
         (524288, 524289, Err(EvalStop::TextTooLong)),
         (1048577, 0, Err(EvalStop::TextTooLong)),
     ] {
-        assert_eq!(rt;
-            joined_len(rt.alloc(), left, right),
-            want,
-            "{left} and {right}"
-        );
+        let sides = ("a".repeat(alloc, left)?, "a".repeat(alloc, right)?);
+        let sides = (text(alloc, sides.0.as_str()), text(alloc, sides.1.as_str()));
+        let tree = call(alloc, Word::Len, two(alloc, Op::Join, sides.0, sides.1));
+        assert_eq!(rt; value_of(alloc, tree, &env), want, "{left} and {right}");
     }
+    Ok(())
 }
 
 /// Texts and the number that each spells, if any.
@@ -191,32 +163,27 @@ fn numbers_that_texts_spell(rt: HostRuntime) {
     let env = Env::new(alloc);
     for case in &SPELLINGS {
         let (t, want) = *case;
-        let as_int = number_of(alloc, call(alloc, Word::Int, text(alloc, t)), &env);
-        let tried = number_of(alloc, call(alloc, Word::TryInt, text(alloc, t)), &env);
-        assert_eq!(rt; tried, Ok(want), "tryint {t:?}");
-        match want {
-            Some(n) => assert_eq!(rt; as_int, Ok(Some(n)), "int {t:?}"),
-            None => assert_eq!(rt; as_int, Err(EvalStop::NotANumber), "int {t:?}"),
-        }
+        let as_int = value_of(alloc, call(alloc, Word::Int, text(alloc, t)), &env);
+        let number = want.map(Value::Int).ok_or(EvalStop::NotANumber);
+        assert_eq!(rt; as_int, number, "int {t:?}");
+        let tried = value_of(alloc, call(alloc, Word::TryInt, text(alloc, t)), &env);
+        let number = want.map_or(Value::Nothing, Value::Int);
+        assert_eq!(rt; tried, Ok(number), "tryint {t:?}");
     }
-}
-
-/// `if b then tryint(t) else nothing`.
-fn tried_if(alloc: Global, b: bool, t: &str) -> Result<Expr, NoMemory> {
-    let tried = call(alloc, Word::TryInt, text(alloc, t));
-    chosen_some(alloc, truth(b), tried)
 }
 
 #[test]
 fn what_is_tried_or_nothing(rt: HostRuntime) {
     let alloc = rt.alloc();
     let env = Env::new(alloc);
-    assert_eq!(rt;
-        number_of(alloc, tried_if(alloc, true, "7"), &env),
-        Ok(Some(7))
-    );
-    for (b, t) in [(true, "x"), (false, "7"), (false, "x")] {
-        let got = gives_nothing(alloc, tried_if(alloc, b, t), &env);
-        assert_eq!(rt; got, Ok(true), "{b} {t}");
+    for (b, t, want) in [
+        (true, "7", Value::Int(7)),
+        (true, "x", Value::Nothing),
+        (false, "7", Value::Nothing),
+        (false, "x", Value::Nothing),
+    ] {
+        let tried = call(alloc, Word::TryInt, text(alloc, t));
+        let tree = chosen(alloc, truth(b), tried, None);
+        assert_eq!(rt; value_of(alloc, tree, &env), Ok(want), "{b} {t}");
     }
 }
