@@ -1,0 +1,2 @@
+pub mod AsOften
+pub mod Laws

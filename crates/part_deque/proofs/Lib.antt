@@ -1,0 +1,4 @@
+mod Views
+pub mod Keeps
+pub mod Reached
+pub mod Halving

@@ -1,0 +1,5 @@
+use Rattle.part_deque.proofs.Reached.{knows_all}
+use Rattle.part_deque.proofs.laws.the_whole_weight_knows_all.Goals as goal
+
+pub returns : goal.returns
+returns c = knows_all
