@@ -1,6 +1,5 @@
 -- The first refusal of the rows of a file, as they are read one after another.
-use Rattle.std.proofs.Common.{◌≡◌, ◌≢◌, ◌∙◌, ◌<◌, ◌≤◌, ◌+◌, ◌*◌, ◌++◌, ℕ, suc, List, [], ◌∷◌, Bool, true, false, Some, None, Result, Ok, Err, length, refl, sym, ap, arith, append_assoc, eq-eqb, length-append}
-use Rattle.std.proofs.Math.Nat.{mul-le-mul_left}
+use Rattle.std.proofs.Common.{◌≡◌, ◌≢◌, ◌∙◌, ◌≤◌, ◌+◌, ◌*◌, ◌++◌, ℕ, suc, List, [], ◌∷◌, Bool, true, false, Some, None, Result, Ok, Err, length, refl, sym, ap, arith, append_assoc, eq-eqb, length-append}
 use Rattle.std.proofs.Math.Seq.{take-append-add}
 use Rattle.std.proofs.lemmas.Bool.{ltb-false, ne_eqb}
 use Rattle.std.proofs.lemmas.List.Sums.{sum_by-append, sum_by-cons}
@@ -10,7 +9,6 @@ use Rattle.std.specs.Prelude.{◌==◌, ◌&&◌, if◌then◌else◌, nat_lt, s
 use Rattle.std.specs.Result.{IsErrAnd}
 use Rattle.std.specs.Str.{is_utf8}
 use Rattle.csv.specs.Records.{AllText}
-use Rattle.column_input.specs.Limits.{max_columns}
 use Rattle.column_input.specs.Records.{Fields, StartsNotUtf8}
 use Rattle.column_input.specs.Refusals.{fields_up_to, row_refusal, row_refusals}
 use Rattle.column_input.specs.declared.refusal.TableRefusal.{TableRefusal}

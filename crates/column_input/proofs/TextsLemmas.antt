@@ -1,5 +1,5 @@
 -- A list of texts, as it grows.
-use Rattle.std.proofs.Common.{◌≡◌, ◌∙◌, ◌≤◌, ◌+◌, ◌-◌, ◌++◌, ℕ, List, [], ◌∷◌, length, drop, refl, arith, length-append}
+use Rattle.std.proofs.Common.{◌≡◌, ◌∙◌, ◌≤◌, ◌-◌, ◌++◌, ℕ, List, [], ◌∷◌, length, refl, arith, length-append}
 use Rattle.std.specs.Prelude.{IsUtf8}
 use Rattle.std.proofs.lemmas.List.{drop-append-le, drop_all}
 use Rattle.csv.proofs.RecordFacts.{cut-end, cut-more, last-append, rising-end, rising-more, text-more}

@@ -21,11 +21,13 @@ pub(crate) fn read_header(
     records: &mut Records<'_>,
     limit: u64,
 ) -> Result<StringRecord, TableRefusal>
-    ensures header { IfOk result (λ header. (records.old ≡ fields_of header ∷ records.new) × AllText (fields_of header)) }
+    ensures header { IfOk result (λ header. (records.old ≡ fields_of header ∷ records.new)
+        × AllText (fields_of header)) }
     ensures some { IfOk result (λ header. 0 < length (fields_of header)) }
     ensures width { IfOk result (λ header. length (fields_of header) ≤ max_columns) }
     ensures fits { IfOk result (λ header. length (fields_of header) ≤ limit) }
-    ensures refused { IfErr result (λ refusal. refusal ≢ refused.NoMemory → first_file_refusal limit records.old ≡ Some refusal) }
+    ensures refused { IfErr result (λ refusal. refusal ≢ refused.NoMemory
+        → first_file_refusal limit records.old ≡ Some refusal) }
 {
     let header = first_record(alloc, records)?;
     let columns = header.len() as u64;
@@ -65,10 +67,11 @@ pub(crate) fn pass_header(
 
 /// Reads the first record of a file.
 fn first_record(alloc: Global, records: &mut Records<'_>) -> Result<StringRecord, TableRefusal>
-    ensures first { IfOk result (λ header. (records.old ≡ fields_of header ∷ records.new) × AllText (fields_of header)) }
+    ensures first { IfOk result (λ header. (records.old ≡ fields_of header ∷ records.new)
+        × AllText (fields_of header)) }
     ensures some { IfOk result (λ header. 0 < length (fields_of header)) }
-    ensures refused { IfErr result (λ refusal. refusal ≢ refused.NoMemory → (limit before : ℕ) (names : Fields)
-        → (first_file_refusal limit records.old ≡ Some refusal)
+    ensures refused { IfErr result (λ refusal. refusal ≢ refused.NoMemory
+        → (limit before : ℕ) (names : Fields) → (first_file_refusal limit records.old ≡ Some refusal)
         × (further_file_refusal limit before names records.old ≡ Some refusal)) }
 {
     let mut header = StringRecord::new(alloc);

@@ -102,7 +102,8 @@ impl Table {
     pub fn append(&mut self, alloc: Global, bytes: &[u8]) -> Result<(), TableRefusal>
         requires read { 0 < self.old.files }
         ensures rows { OnOk result (appended self.old bytes.now ≡ Ok self.new) }
-        ensures refused { IfErr result (λ refusal. refusal ≢ refused.NoMemory → appended self.old bytes.now ≡ Err refusal) }
+        ensures refused { IfErr result (λ refusal. refusal ≢ refused.NoMemory
+            → appended self.old bytes.now ≡ Err refusal) }
         ensures kept { OnErr result (self.new ≡ self.old) }
         ensures files { OnOk result (self.new.files ≡ self.old.files + 1) }
     {

@@ -1,6 +1,6 @@
-use Rattle.std.proofs.Common.{◌∙◌, ◌+◌, arith, sym}
+use Rattle.std.proofs.Common.{◌∙◌, ◌+◌, sym}
 use Rattle.csv.specs.Records.{fields_of}
-use Rattle.column_input.proofs.HeaderLemmas.{differs_here, ends_alike, fields_compared, not_false, not_true, same_further}
+use Rattle.column_input.proofs.HeaderLemmas.{differs_here, fields_compared, not_false, not_true, same_further}
 use Rattle.column_input.proofs.header.first_difference.Goals as goal
 
 pub returns-then-ne : goal.returns-then-ne

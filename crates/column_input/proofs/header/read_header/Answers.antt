@@ -1,4 +1,4 @@
-use Rattle.std.proofs.Common.{[], sym}
+use Rattle.std.proofs.Common.{[]}
 use Rattle.column_input.proofs.HeaderLemmas.{too_many, too_wide}
 use Rattle.column_input.proofs.TableLemmas.{handed_on}
 use Rattle.column_input.proofs.header.read_header.Goals as goal

@@ -1,4 +1,4 @@
-use Rattle.std.proofs.Common.{◌∙◌, arith, sym}
+use Rattle.std.proofs.Common.{◌∙◌, arith}
 use Rattle.column_input.proofs.ChunkLemmas.{cell_found, place_below}
 use Rattle.column_input.proofs.chunk.Chunk.text.Goals as goal
 

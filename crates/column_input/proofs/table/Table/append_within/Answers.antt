@@ -1,4 +1,4 @@
-use Rattle.std.proofs.Common.{◌≡◌, ◌∙◌, ◌<◌, ◌+◌, ◌*◌, Ok, Err, ap, sym, refl, length}
+use Rattle.std.proofs.Common.{◌≡◌, ◌∙◌, ◌<◌, Ok, ap, sym, refl, length}
 use Rattle.csv.specs.Records.{fields_of}
 use Rattle.column_input.proofs.HeaderLemmas.{further_header_refused, further_held, further_refused}
 use Rattle.column_input.proofs.KeptLemmas.{fields_counted, further_is, kept_more}

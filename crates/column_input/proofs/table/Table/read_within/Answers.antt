@@ -1,4 +1,4 @@
-use Rattle.std.proofs.Common.{◌≡◌, ◌∙◌, Ok, Err, ap, sym, refl}
+use Rattle.std.proofs.Common.{◌≡◌, ◌∙◌, Ok, Err, ap, sym}
 use Rattle.csv.specs.Records.{fields_of}
 use Rattle.column_input.proofs.HeaderLemmas.{first_held, first_refused}
 use Rattle.column_input.proofs.KeptLemmas.{first_is, kept_first}

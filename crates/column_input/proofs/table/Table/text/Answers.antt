@@ -1,4 +1,4 @@
-use Rattle.std.proofs.Common.{◌≡◌, ◌∙◌, ◌<◌, length}
+use Rattle.std.proofs.Common.{◌∙◌}
 use Rattle.column_input.proofs.KeptLemmas.{file_there, same_there, wanted_further, wanted_here}
 use Rattle.column_input.proofs.table.Table.text.Goals as goal
 

@@ -1,5 +1,4 @@
-use Rattle.std.proofs.Common.{◌≡◌, ◌<◌, ◌∙◌, [], length, sym, ap, arith}
-use Rattle.std.proofs.lemmas.Option.{slice_get-get_or}
+use Rattle.std.proofs.Common.{◌<◌, ◌∙◌, length, sym, ap, arith}
 use Rattle.csv.proofs.RecordFacts.{cut-length, field-bounds, field-cut, text-of}
 use Rattle.column_input.proofs.ChunkLemmas.{field_at-slice_get}
 use Rattle.column_input.proofs.texts.Texts.get.Goals as goal
