@@ -1,9 +1,9 @@
 -- The extreme of a list: the one input that beats each before it and that none after it beats; of two lists together; with places.
-use Rattle.std.proofs.Common.{◌≡◌, ℕ, ◌<◌, ◌≤◌, Bool, true, false, List, [], ◌∷◌, ◌++◌, Option, Some, None, All, Contains, refl, sym, ap, ◌∙◌, subst, append_assoc, length-append, true≢false, ⊎_elim, arith}
+use Rattle.std.proofs.Common.{◌≡◌, ◌<◌, ◌≤◌, Bool, true, false, List, [], ◌∷◌, ◌++◌, Option, Some, None, All, Contains, refl, sym, ap, ◌∙◌, subst, append_assoc, length-append, true≢false, ⊎_elim, arith}
 use Rattle.std.specs.Option.{option_map}
-use Rattle.std.specs.Prelude.{if◌then◌else◌, map, ◌↔◌, ℤ, ◌≤ℤ◌}
+use Rattle.std.specs.Prelude.{if◌then◌else◌, map, ℤ, ◌≤ℤ◌}
 use Rattle.std.specs.Int.Signed.{◌<ℤ◌, ≤ℤ_refl, <ℤ_irrefl}
-use Rattle.std.specs.Cmp.{IsStrictWeakOrder, IsTotalOrder, int_ranks, int_chain, int_cmp_total}
+use Rattle.std.specs.Cmp.{IsStrictWeakOrder, IsTotalOrder, int_ranks, int_chain}
 use Rattle.std.specs.Ordering.{is_lt, is_gt, ordering_then, ordering_reverse, int_cmp, MatchOrdering}
 use Rattle.std.specs.declared.cmp.Ordering.{Ordering}
 use Rattle.std.specs.declared.cmp.Ordering.TheVariants.{Less, Equal, Greater}
@@ -96,9 +96,6 @@ module _ {T : Type 0} {beats : T → T → Bool} (o : IsStrictWeakOrder beats) w
   first_is_best None xs e = ap (best_of beats) (sym e)
   first_is_best (Some x) xs (before, after, e, over, under) = sym (ap (best_of beats) e ∙ first_is_found before after x over under)
 
-  pub best_both_ways : (best : Option T) (xs : List T) → IsFirstExtreme beats best xs ↔ (best ≡ best_of beats xs)
-  best_both_ways best xs = (first_is_best best xs, λ e. subst (λ o. IsFirstExtreme beats o xs) (sym e) (best_is_first xs))
-
 -- ---- where inputs are said otherwise, in the same order
 
 module _ {T U : Type 0} (f : T → U) (beats : T → T → Bool) (by : U → U → Bool) (alike : (x y : T) → by (f x) (f y) ≡ beats x y) where
@@ -131,8 +128,9 @@ pub at_most_z : (p q : ℤ) → is_lt (int_cmp q p) ≡ false → p ≤ℤ q
 at_most_z p q h = not_less_z (int_cmp q p) q p (int_ranks q p) h
 
 module _ {T P : Type 0} {cmp : T → T → Ordering} {places : P → P → Ordering} (total : IsTotalOrder cmp) (ordered : IsTotalOrder places) {AtMost : P → P → Type 0} (at_most : (p q : P) → is_lt (places q p) ≡ false → AtMost p q) where
-  pub least_place : (x : T × P) (xs : List (T × P)) → IsFirstExtreme (is_smaller_at cmp places) (Some x) xs → IsAtLeastPlace (is_smaller cmp) cmp AtMost x xs
-  least_place x xs first =
+  pub least_place : (best : Option (T × P)) (xs : List (T × P)) → IsFirstExtreme (is_smaller_at cmp places) best xs → IsAtLeastPlace (is_smaller cmp) cmp AtMost best xs
+  least_place None xs first = first
+  least_place (Some x) xs first =
       let (here, all) = unbeaten_member (smaller_at_is_order total ordered) x xs first in
       let none : T × P → Type 0 = λ y. is_smaller_at cmp places y x ≡ false in (
         here,
@@ -141,8 +139,9 @@ module _ {T P : Type 0} {cmp : T → T → Ordering} {places : P → P → Order
             (λ y n same. at_most x.1 y.1 ((not_before (cmp y.0 x.0) (places y.1 x.1) n).1 same)) xs all,
       )
 
-  pub greatest_place : (x : T × P) (xs : List (T × P)) → IsFirstExtreme (is_greater_at cmp places) (Some x) xs → IsAtLeastPlace (is_greater cmp) cmp AtMost x xs
-  greatest_place x xs first =
+  pub greatest_place : (best : Option (T × P)) (xs : List (T × P)) → IsFirstExtreme (is_greater_at cmp places) best xs → IsAtLeastPlace (is_greater cmp) cmp AtMost best xs
+  greatest_place None xs first = first
+  greatest_place (Some x) xs first =
       let (here, all) = unbeaten_member (greater_at_is_order total ordered) x xs first in
       let none : T × P → Type 0 = λ y. is_greater_at cmp places y x ≡ false in
       let turned : (y : T × P) → cmp y.0 x.0 ≡ Equal → cmp x.0 y.0 ≡ Equal = λ y same. total.antisymm x.0 y.0 ∙ ap ordering_reverse same in (
@@ -152,10 +151,8 @@ module _ {T P : Type 0} {cmp : T → T → Ordering} {places : P → P → Order
             (λ y n same. at_most x.1 y.1 ((not_before (cmp x.0 y.0) (places y.1 x.1) n).1 (turned y same))) xs all,
       )
 
-  pub least_best_place : (x : T × P) (xs : List (T × P)) → best_of (is_smaller_at cmp places) xs ≡ Some x → IsAtLeastPlace (is_smaller cmp) cmp AtMost x xs
-  least_best_place x xs e =
-      least_place x xs (subst (λ o. IsFirstExtreme (is_smaller_at cmp places) o xs) e (best_is_first (smaller_at_is_order total ordered) xs))
+  pub least_best_place : (xs : List (T × P)) → IsAtLeastPlace (is_smaller cmp) cmp AtMost (best_of (is_smaller_at cmp places) xs) xs
+  least_best_place xs = least_place (best_of (is_smaller_at cmp places) xs) xs (best_is_first (smaller_at_is_order total ordered) xs)
 
-  pub greatest_best_place : (x : T × P) (xs : List (T × P)) → best_of (is_greater_at cmp places) xs ≡ Some x → IsAtLeastPlace (is_greater cmp) cmp AtMost x xs
-  greatest_best_place x xs e =
-      greatest_place x xs (subst (λ o. IsFirstExtreme (is_greater_at cmp places) o xs) e (best_is_first (greater_at_is_order total ordered) xs))
+  pub greatest_best_place : (xs : List (T × P)) → IsAtLeastPlace (is_greater cmp) cmp AtMost (best_of (is_greater_at cmp places) xs) xs
+  greatest_best_place xs = greatest_place (best_of (is_greater_at cmp places) xs) xs (best_is_first (greater_at_is_order total ordered) xs)

@@ -1,3 +1,4 @@
 pub mod ExtremeLemmas
 pub mod KeyLemmas
 pub mod Layers
+pub mod OrderLemmas

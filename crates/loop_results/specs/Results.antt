@@ -1,6 +1,6 @@
 -- The result of a tower over the whole list of its inputs: the exact sum, the wrapped product, the length, the extreme, the
 -- first, the last, any, all, the list, for `group` the results of each key's inputs, for `both` the pair. Source: this project.
-use Rattle.std.specs.Prelude.{ℕ, Bool, List, [], ◌∷◌, map, length, Option, Some, None, ℤ, pos, ◌+ℤ◌, ◌*ℤ◌}
+use Rattle.std.specs.Prelude.{ℕ, Bool, List, [], ◌∷◌, map, length, Option, ℤ, pos, ◌+ℤ◌, ◌*ℤ◌}
 use Rattle.std.specs.List.{list_any, list_all}
 use Rattle.std.specs.Int.{w64, int_wrap}
 use Rattle.loop_data.specs.declared.value.Value.{Value}

@@ -1,6 +1,6 @@
 -- The statements of the laws of what states stand for.
 -- Source: this project.
-use Rattle.std.specs.Prelude.{◌≡◌, ℕ, ◌^◌, ◌≤◌, List, [], ◌++◌, map, length, Bool, All, Option, Some, ℤ, pos, neg_ℤ, ◌≤ℤ◌}
+use Rattle.std.specs.Prelude.{◌≡◌, ℕ, ◌^◌, ◌≤◌, List, [], ◌++◌, map, length, Bool, All, Option, ℤ, pos, neg_ℤ, ◌≤ℤ◌}
 use Rattle.std.specs.Option.{option_map}
 use Rattle.std.specs.Ordering.{nat_cmp, int_cmp}
 use Rattle.std.specs.declared.cmp.Ordering.{Ordering}
@@ -35,13 +35,13 @@ StatesAreUnbeaten {T} beats = (state : Option T) (xs : List T) → IsFirstExtrem
 
 -- the smallest value is held with the least place where a value stands that is equal to it
 abbrev pub LeastIsHeldAtLeastPlace : {T : Type 0} → (T → T → Ordering) → Type 0
-LeastIsHeldAtLeastPlace {T} cmp = (x : T × ℕ) (xs : List (T × ℕ)) → IsFirstExtreme (is_smaller_at cmp nat_cmp) (Some x) xs →
-    IsAtLeastPlace (is_smaller cmp) cmp (λ p q. p ≤ q) x xs
+LeastIsHeldAtLeastPlace {T} cmp = (state : Option (T × ℕ)) (xs : List (T × ℕ)) → IsFirstExtreme (is_smaller_at cmp nat_cmp) state xs →
+    IsAtLeastPlace (is_smaller cmp) cmp (λ p q. p ≤ q) state xs
 
 -- the greatest value is held with the least place where a value stands that is equal to it
 abbrev pub GreatestIsHeldAtLeastPlace : {T : Type 0} → (T → T → Ordering) → Type 0
-GreatestIsHeldAtLeastPlace {T} cmp = (x : T × ℕ) (xs : List (T × ℕ)) → IsFirstExtreme (is_greater_at cmp nat_cmp) (Some x) xs →
-    IsAtLeastPlace (is_greater cmp) cmp (λ p q. p ≤ q) x xs
+GreatestIsHeldAtLeastPlace {T} cmp = (state : Option (T × ℕ)) (xs : List (T × ℕ)) → IsFirstExtreme (is_greater_at cmp nat_cmp) state xs →
+    IsAtLeastPlace (is_greater cmp) cmp (λ p q. p ≤ q) state xs
 
 -- a value with its place, an integer of the loop language
 abbrev pub at_int_place : {T : Type 0} → T × ℕ → T × ℤ

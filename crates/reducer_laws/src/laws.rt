@@ -10,6 +10,7 @@ use crate::{
     LeastAt, Listed, Preference, Prod, Reducer, Sum,
 };
 use loop_data::Many;
+use loop_data::laws::is_shared;
 
 /// Three states merged either way stand for their three lists together.
 pub fn merging_is_associative<R: Reducer>()
@@ -54,8 +55,6 @@ pub fn groups_have_the_keys_of_their_inputs<R: Reducer>()
     ensures keys { (r : R) → GroupsHaveKeysOfInputs (R.stands r) }
     ensures states { (r : R) → EachGroupStands (R.stands r) }
 {}
-
-fn is_shared<T: Send + Sync>() {}
 
 /// Threads share these reducers, and hand them to each other.
 pub fn threads_share_reducers<T: Ord + Send + Sync, A: Send + Sync, B: Send + Sync>() {

@@ -1,5 +1,4 @@
-use Rattle.std.proofs.Common.{◌≡◌, cond, ap, sym, ◌∙◌, Some, subst}
-use Rattle.std.specs.Str.{bytes_eq}
+use Rattle.std.proofs.Common.{ap, sym, ◌∙◌, Some, subst}
 use Rattle.reducer_laws.specs.Groups.{HoldsAt, state_at}
 use Rattle.reducer_laws.proofs.GroupLemmas.{found, updated}
 use Rattle.reducer_laws.proofs.grouped.Groups.insert.Goals as goal
