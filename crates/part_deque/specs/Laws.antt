@@ -1,6 +1,6 @@
 -- What holds of a deque whatever the steps are, as statements.
 -- Source: this project.
-use Rattle.std.specs.Prelude.{◌≡◌, ℕ, List, drop, ◌++◌}
+use Rattle.std.specs.Prelude.{◌≡◌, List, drop, ◌++◌}
 use mathlib.Core.Option.{some}
 use lib.ListN.{get_elem?}
 use Rattle.splittable.specs.Parts.{Stretch}

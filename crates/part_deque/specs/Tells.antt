@@ -1,6 +1,6 @@
 -- What each step of a deque tells the end that takes it.
 -- Source: this project.
-use Rattle.std.specs.Prelude.{◌≡◌, ℕ, ◌+◌, ◌<◌, List, ◌++◌, length}
+use Rattle.std.specs.Prelude.{◌≡◌, ◌+◌, ◌<◌, List, ◌++◌, length}
 use Rattle.std.specs.List.{AllByRecursion}
 use Rattle.splittable.specs.Parts.{Stretch}
 use Rattle.splittable.specs.Nodes.{IsNode}

@@ -1,10 +1,10 @@
-use Rattle.std.proofs.Common.{rules, ◌≡◌, ◌≤◌, ◌+◌, ◌*◌, ℕ, Global, sym, subst, arith}
+use Rattle.std.proofs.Common.{rules, ◌≡◌, ◌≤◌, ◌+◌, ◌*◌, sym, subst, arith}
 use Rattle.std.specs.Vec.{vec_len}
 use Rattle.crossbeam_deque.specs.Handles.{stealer_deque}
 use Rattle.part_deque.specs.Ends.{ThiefEnd}
 use Rattle.part_deque.specs.Rights.{account_of}
 use Rattle.part_deque.specs.Steps.{right_weight}
-use Rattle.part_deque.proofs.Halving.{AreHalved, halved, stays, goes, AreGone, rights_stay, rights_go}
+use Rattle.part_deque.proofs.Halving.{AreHalved, halved, stays, goes, rights_stay, rights_go}
 use Rattle.part_deque.proofs.thief.PartThief.split.Goals as goal
 
 pub invariant_of-result : goal.invariant_of-result
