@@ -1,8 +1,8 @@
 -- A list of entries with one entry set, as a finite map.
-use Rattle.std.proofs.Common.{◌≡◌, ℕ, zero, suc, ◌+◌, ◌<◌, List, [], ◌∷◌, ◌++◌, length, take, drop, get_or, Bool, true, false, cond, Option, Some, refl, ap, sym, ◌∙◌, subst, rules, arith}
+use Rattle.std.proofs.Common.{◌≡◌, ◌≢◌, ℕ, zero, suc, ◌+◌, ◌<◌, List, [], ◌∷◌, ◌++◌, length, take, drop, get_or, Bool, true, false, cond, Option, Some, None, refl, ap, sym, ◌∙◌, subst, append_assoc, rules, arith}
 use Rattle.std.specs.Prelude.{slice_set, if◌then◌else◌}
 use Rattle.std.proofs.lemmas.Cmp.{nat_list_cmp_total}
-use Rattle.std.proofs.lemmas.List.{drop_more}
+use Rattle.std.proofs.lemmas.List.{drop_more, take_more}
 use Rattle.std.proofs.lemmas.Map.Text.{is_eq-slice_cmp}
 use Rattle.std.proofs.lemmas.Slice.Eq.{bytes_eq-Decides}
 use Rattle.std.specs.Ordering.{nat_cmp, eq_by_cmp}
@@ -16,6 +16,13 @@ pub with_entry-here : {X : Type 0} (es : List (List ℕ × X)) (i : ℕ) (k : Li
 with_entry-here [] i k v d d' lt e = absurd (omega arith)
 with_entry-here (x ∷ es) zero k v d d' lt e = ap (λ b. if b then (x.0, v) ∷ es else x ∷ with_entry es k v) e
 with_entry-here (x ∷ es) (suc i) k v d d' lt e = ap (λ l. x ∷ l) (with_entry-here es i k v d d' (omega arith) e)
+
+-- at a place whose key isn't k the entry stays
+pub with_entry-past : {X : Type 0} (es : List (List ℕ × X)) (i : ℕ) (k : List ℕ) (v : X) (d : List ℕ × X) → i < length es → bytes_eq k (get_or es i d).0 ≡ false → take (i + 1) es ++ with_entry (drop (i + 1) es) k v ≡ take i es ++ with_entry (drop i es) k v
+with_entry-past es i k v d lt e =
+    ap (λ l. l ++ with_entry (drop (i + 1) es) k v) (take_more es i d lt)
+    ∙ append_assoc (take i es) (get_or es i d ∷ []) (with_entry (drop (i + 1) es) k v)
+    ∙ ap (λ l. take i es ++ l) (sym (ap (λ l. with_entry l k v) (drop_more es i d lt) ∙ ap (λ b. if b then ((get_or es i d).0, v) ∷ drop (i + 1) es else get_or es i d ∷ with_entry (drop (i + 1) es) k v) e))
 
 pub at_text : (q k : List ℕ) → eq_by_cmp (slice_cmp nat_cmp) q k ≡ bytes_eq q k
 at_text q k = is_eq-slice_cmp q k
@@ -69,3 +76,8 @@ find-at q es i x b lt is e =
 pub get-view : {X : Type 0} (q : List ℕ) (es fs : List (List ℕ × X)) (m : FinMap (slice_cmp nat_cmp) X) (r : Option X) → r ≡ find (slice_cmp nat_cmp) q fs → fs ≡ es → from_entries es ≡ m → r ≡ get m q
 get-view q es fs m r given same view =
     given ∙ ap (find (slice_cmp nat_cmp) q) same ∙ sym (get-from_entries nat_list_cmp_total es q) ∙ ap (λ n. get n q) view
+
+-- a name that such a map knows is found in the list
+pub known-view : {X : Type 0} (q : List ℕ) (es : List (List ℕ × X)) (m : FinMap (slice_cmp nat_cmp) X) → from_entries es ≡ m → get m q ≢ None → find (slice_cmp nat_cmp) q es ≢ None
+known-view q es m view known none =
+    known (sym (ap (λ n. get n q) view) ∙ get-from_entries nat_list_cmp_total es q ∙ none)

@@ -5,5 +5,6 @@ pub mod KindLemmas
 pub mod Layers
 pub mod NamesLemmas
 pub mod SameLemmas
+pub mod ScalarLemmas
 pub mod SoundLemmas
 pub mod SpellingLemmas

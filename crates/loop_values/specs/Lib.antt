@@ -7,4 +7,5 @@ pub mod NamesIn
 pub mod Operations
 pub mod Seen
 pub mod Spelling
+pub mod Stops
 pub mod Values

@@ -1,6 +1,6 @@
 -- The operations of the loop language on values: what each gives, or its fault.
 -- Source: Julia for the wrap of 64-bit numbers, `div`, `rem` and `mod`; this project for the rest.
-use Rattle.std.specs.Prelude.{ℕ, Bool, true, false, not, ◌||◌, if◌then◌else◌, List, [], ◌++◌, length, codes, Option, Some, None, Result, Ok, Err, ℤ, pos, negsuc, ◌+ℤ◌, ◌-ℤ◌, ◌*ℤ◌, neg_ℤ, int_lt, int_div, int_rem, nat_le, unsigned_abs}
+use Rattle.std.specs.Prelude.{◌≡◌, ℕ, Bool, true, false, not, ◌&&◌, ◌||◌, if◌then◌else◌, List, [], ◌++◌, length, codes, Option, Some, None, Result, Ok, Err, ℤ, pos, negsuc, ◌+ℤ◌, ◌-ℤ◌, ◌*ℤ◌, int_lt, int_div, int_rem, nat_le, unsigned_abs}
 use Rattle.std.specs.Int.{w64, int_wrap, int_min, int_max}
 use Rattle.std.specs.Ordering.{is_lt, nat_cmp, int_eq}
 use Rattle.std.specs.Cmp.Lexicographic.{slice_cmp}
@@ -33,11 +33,13 @@ least_int = negsuc 9223372036854775807
 abbrev pub wrapped : ℤ → Outcome
 wrapped n = Ok (Int (int_wrap w64 n))
 
--- the quotient, truncated; a fault over 0, and for the least number over -1
+-- whether `a div b` is a fault: b is 0, or a is the least number and b is -1
+abbrev pub has_no_quotient : ℤ → ℤ → Bool
+has_no_quotient a b = int_eq b (pos 0) || (int_eq a least_int && int_eq b (negsuc 0))
+
+-- the quotient, truncated
 abbrev pub divided : ℤ → ℤ → Outcome
-divided a b =
-    if int_eq b (pos 0) then Err DivideError
-    else (if int_eq b (negsuc 0) then (if int_eq a least_int then Err DivideError else Ok (Int (neg_ℤ a))) else Ok (Int (int_div a b)))
+divided a b = if has_no_quotient a b then Err DivideError else Ok (Int (int_div a b))
 
 -- what is left of the division, with the sign of a; a fault over 0
 abbrev pub remainder : ℤ → ℤ → Outcome
@@ -79,6 +81,16 @@ is_less (Int a) (Int b) = int_lt a b
 is_less (Text a) (Text b) = is_lt (slice_cmp nat_cmp a b)
 is_less _ _ = false
 
+-- what a comparison gives; false for any other operation
+abbrev pub compared : Op → Value → Value → Bool
+compared op.Eq x y = is_equal x y
+compared op.Ne x y = not (is_equal x y)
+compared op.Lt x y = is_less x y
+compared op.Le x y = not (is_less y x)
+compared op.Gt x y = is_less y x
+compared op.Ge x y = not (is_less x y)
+compared _ x y = false
+
 -- ---- the operations of two sides, and the words
 
 abbrev pub truth : Bool → Outcome
@@ -103,6 +115,40 @@ two_of op.Ge x y = truth (not (is_less x y))
 two_of op.And x y = truth (as_bool y)
 two_of op.Or x y = truth (as_bool y)
 
+-- the operations of numbers that give a number
+abbrev pub is_arithmetic : Op → Bool
+is_arithmetic op.Add = true
+is_arithmetic op.Sub = true
+is_arithmetic op.Mul = true
+is_arithmetic op.Div = true
+is_arithmetic op.Rem = true
+is_arithmetic op.Mod = true
+is_arithmetic op.Min = true
+is_arithmetic op.Max = true
+is_arithmetic _ = false
+
+abbrev pub is_comparison : Op → Bool
+is_comparison op.Eq = true
+is_comparison op.Ne = true
+is_comparison op.Lt = true
+is_comparison op.Le = true
+is_comparison op.Gt = true
+is_comparison op.Ge = true
+is_comparison _ = false
+
+-- the operations that give a truth value
+abbrev pub gives_truth : Op → Bool
+gives_truth op.And = true
+gives_truth op.Or = true
+gives_truth o = is_comparison o
+
+-- the words that give a number
+abbrev pub is_counting : Word → Bool
+is_counting word.Abs = true
+is_counting word.Len = true
+is_counting word.Int = true
+is_counting _ = false
+
 -- whether the left side decides, so that the right is left out
 abbrev pub decides : Op → Value → Bool
 decides op.And x = not (as_bool x)
@@ -123,3 +169,47 @@ call_of word.Len x = Ok (Int (pos (length (as_text x))))
 call_of word.Int x = number_or_fault (spelled (as_text x))
 call_of word.TryInt x = number_or_nothing (spelled (as_text x))
 call_of word.Text x = Ok (Text (text_of x))
+
+-- ---- what an outcome counts as where a number or a truth value is needed
+
+abbrev pub Number : Type 0
+Number = Result ℤ EvalStop
+
+abbrev pub Test : Type 0
+Test = Result Bool EvalStop
+
+abbrev pub int_or_fault : Outcome → Number
+int_or_fault (Ok v) = Ok (as_int v)
+int_or_fault (Err s) = Err s
+
+abbrev pub bool_or_fault : Outcome → Test
+bool_or_fault (Ok v) = Ok (as_bool v)
+bool_or_fault (Err s) = Err s
+
+abbrev pub number_value : Number → Outcome
+number_value (Ok n) = Ok (Int n)
+number_value (Err s) = Err s
+
+abbrev pub truth_value : Test → Outcome
+truth_value (Ok b) = Ok (Truth b)
+truth_value (Err s) = Err s
+
+-- the outcome is a number or a fault
+abbrev pub IsNumber : Outcome → Type 0
+IsNumber r = r ≡ number_value (int_or_fault r)
+
+-- the outcome is a truth value or a fault
+abbrev pub IsTruth : Outcome → Type 0
+IsTruth r = r ≡ truth_value (bool_or_fault r)
+
+-- what an operation of numbers gives; 0 for any other operation
+abbrev pub arithmetic : Op → ℤ → ℤ → Number
+arithmetic op.Add a b = Ok (int_wrap w64 (a +ℤ b))
+arithmetic op.Sub a b = Ok (int_wrap w64 (a -ℤ b))
+arithmetic op.Mul a b = Ok (int_wrap w64 (a *ℤ b))
+arithmetic op.Div a b = int_or_fault (divided a b)
+arithmetic op.Rem a b = int_or_fault (remainder a b)
+arithmetic op.Mod a b = int_or_fault (modulo a b)
+arithmetic op.Min a b = Ok (int_min a b)
+arithmetic op.Max a b = Ok (int_max a b)
+arithmetic _ a b = Ok (pos 0)

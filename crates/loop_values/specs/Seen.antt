@@ -11,6 +11,6 @@ abbrev pub worth : Seen → Value
 worth (Lent r) = r.now
 worth (Made v) = v
 
-abbrev pub worth_or_fault : Result Seen EvalStop → Outcome
-worth_or_fault (Ok s) = Ok (worth s)
-worth_or_fault (Err s) = Err s
+abbrev pub worth_of : Result Seen EvalStop → Outcome
+worth_of (Ok s) = Ok (worth s)
+worth_of (Err s) = Err s

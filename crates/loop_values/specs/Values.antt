@@ -8,7 +8,7 @@ use Rattle.loop_data.specs.declared.expr.Expr.{Expr}
 use Rattle.loop_data.specs.declared.expr.Expr.TheOpen.{Expr-F, Expr-F as e}
 use Rattle.loop_data.specs.declared.expr.Expr.TheFolds.{fold-Expr}
 use Rattle.loop_values.specs.Bindings.{Names, place_name}
-use Rattle.loop_values.specs.Operations.{Outcome, and_then, wrapped, truth, two_of, decides, call_of}
+use Rattle.loop_values.specs.Operations.{Outcome, Number, Test, int_or_fault, bool_or_fault, and_then, wrapped, truth, two_of, decides, call_of}
 use Rattle.loop_data.specs.ValueParts.{as_int, as_bool}
 
 -- what an expression means: its outcome, given the values of names
@@ -48,3 +48,11 @@ value_step (e.Tuple ps) env = part_values [] ps env
 
 abbrev pub value_of : Expr → Meaning
 value_of = fold-Expr Meaning value_step
+
+-- the number that an expression counts as where one is needed, or its first fault
+abbrev pub int_of : Expr → Names → Number
+int_of x env = int_or_fault (value_of x env)
+
+-- the truth value that an expression counts as where one is needed, or its first fault
+abbrev pub bool_of : Expr → Names → Test
+bool_of x env = bool_or_fault (value_of x env)

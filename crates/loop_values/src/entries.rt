@@ -1,4 +1,4 @@
-ghost use Rattle.std.specs.Prelude.{◌≡◌, OnOk, OnErr};
+ghost use Rattle.std.specs.Prelude.{◌≡◌, ◌≢◌, None, OnOk, OnErr, IsOk};
 ghost use Rattle.std.specs.Option.{option_copied};
 ghost use Rattle.std.specs.Ordering.{nat_cmp};
 ghost use Rattle.std.specs.Cmp.Lexicographic.{slice_cmp};
@@ -31,6 +31,7 @@ pub(crate) fn set_entry<T: Drop>(
 ) -> Result<(), NoMemory>
     ensures ok { OnOk result (held.new.items ≡ with_entry held.old.items name.now item) }
     ensures err { OnErr result (held.new.items ≡ held.old.items) }
+    ensures known { find (slice_cmp nat_cmp) name.now held.old.items ≢ None → IsOk result }
 {
     for i in 0..held.len() {
         if name == held[i].0.as_str() {

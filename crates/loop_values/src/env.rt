@@ -1,4 +1,4 @@
-ghost use Rattle.std.specs.Prelude.{◌≡◌, OnOk, OnErr, IfOk};
+ghost use Rattle.std.specs.Prelude.{◌≡◌, ◌≢◌, None, OnOk, OnErr, IfOk, IsOk};
 ghost use Rattle.std.specs.Option.{option_copied};
 ghost use Rattle.std.specs.FinMap as map;
 
@@ -52,11 +52,13 @@ impl Env {
     pub fn bind(&mut self, alloc: Global, name: &str, value: Value) -> Result<(), NoMemory>
         ensures ok { OnOk result (self.new ≡ map.insert self.old name.now value) }
         ensures err { OnErr result (self.new ≡ self.old) }
+        ensures bound { map.get self.old name.now ≢ None → IsOk result }
     {
         set_entry(alloc, &mut self.held, name, value)
     }
 
-    /// The same bindings once more. Refused only for want of memory.
+    /// The same bindings once more. Refused only for want of memory, which is taken once for all of them, and for each text
+    /// that is too long to stand in its value, as tests show.
     pub fn copy(&self, alloc: Global) -> Result<Env, NoMemory>
         ensures { IfOk result (λ e. e ≡ self.now) }
     {
@@ -71,7 +73,7 @@ fn copy_entries(
 ) -> Result<Vec<(TextValue, Value)>, NoMemory>
     ensures { IfOk result (λ v. v.items ≡ held.now) }
 {
-    let mut copies = Vec::new(alloc);
+    let mut copies = Vec::with_capacity(alloc, held.len())?;
     for (name, value) in held {
         let name = name.copy(alloc)?;
         let value = value.copy(alloc)?;

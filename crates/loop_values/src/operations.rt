@@ -1,7 +1,8 @@
 ghost use Rattle.std.specs.Prelude.{◌≡◌, ◌≢◌, Err, IfOk, ◌<◌, unsigned_abs, neg_ℤ, pos};
 ghost use Rattle.std.specs.Int.{w64, int_wrap};
-ghost use Rattle.loop_data.specs.ValueParts.{as_int, as_bool, as_text, is_equal};
-ghost use Rattle.loop_values.specs.Operations.{text_of, divided, remainder, modulo, with_sign_of, joined, is_less, two_of, decides, call_of};
+ghost use Rattle.loop_data.specs.ValueParts.{is_equal};
+ghost use Rattle.loop_values.specs.Operations.{text_of, divided, remainder, modulo, with_sign_of, joined, is_less, compared, arithmetic, is_arithmetic, is_comparison, is_counting, gives_truth, int_or_fault, number_or_fault, two_of, decides, call_of};
+ghost use Rattle.loop_values.specs.Spelling.{spelled};
 
 use crate::EvalStop;
 use crate::spelling::spelled;
@@ -12,43 +13,53 @@ use std::alloc::Global;
 /// The most bytes that `&` may make.
 const TEXT_LIMIT: usize = 1048576;
 
-/// The number that a value is, or 0.
-pub(crate) fn as_int(value: &Value) -> i64
-    ensures { result ≡ as_int value.now }
-{
-    match value {
-        Value::Int(n) => *n,
-        _ => 0,
-    }
-}
-
-/// The truth value that a value is, or false.
-pub(crate) fn as_bool(value: &Value) -> bool
-    ensures { result ≡ as_bool value.now }
-{
-    match value {
-        Value::Bool(b) => *b,
-        _ => false,
-    }
-}
-
-/// The text that a value is, or the empty one.
-fn as_text(value: &Value) -> &str
-    ensures { result.now ≡ as_text value.now }
-{
-    match value {
-        Value::Text(t) => t.as_str(),
-        _ => "",
-    }
-}
-
 /// Whether the left side of an operation decides, so that the right side is left out.
 pub(crate) fn decides(op: Op, left: &Value) -> bool
     ensures { result ≡ decides op left.now }
 {
     match op {
-        Op::And => !as_bool(left),
-        Op::Or => as_bool(left),
+        Op::And => !left.as_bool(),
+        Op::Or => left.as_bool(),
+        _ => false,
+    }
+}
+
+/// Whether an operation takes numbers and gives one.
+pub(crate) fn is_arithmetic(op: Op) -> bool
+    ensures { result ≡ is_arithmetic op }
+{
+    match op {
+        Op::Add | Op::Sub | Op::Mul | Op::Div | Op::Rem | Op::Mod | Op::Min | Op::Max => true,
+        _ => false,
+    }
+}
+
+/// Whether an operation compares its sides.
+pub(crate) fn is_comparison(op: Op) -> bool
+    ensures { result ≡ is_comparison op }
+{
+    match op {
+        Op::Eq | Op::Ne | Op::Lt | Op::Le | Op::Gt | Op::Ge => true,
+        _ => false,
+    }
+}
+
+/// Whether an operation gives a truth value.
+pub(crate) fn gives_truth(op: Op) -> bool
+    ensures { result ≡ gives_truth op }
+{
+    match op {
+        Op::And | Op::Or => true,
+        _ => is_comparison(op),
+    }
+}
+
+/// Whether a word gives a number or a fault.
+pub(crate) fn is_counting(word: Word) -> bool
+    ensures { result ≡ is_counting word }
+{
+    match word {
+        Word::Abs | Word::Len | Word::Int => true,
         _ => false,
     }
 }
@@ -57,23 +68,63 @@ pub(crate) fn decides(op: Op, left: &Value) -> bool
 pub(crate) fn two(alloc: Global, op: Op, x: &Value, y: &Value) -> Result<Value, EvalStop>
     ensures { result ≢ Err EvalStop.NoMemory → result ≡ two_of op x.now y.now }
 {
+    if is_arithmetic(op) {
+        return Ok(Value::Int(arithmetic(op, x.as_int(), y.as_int())?));
+    }
+    if is_comparison(op) {
+        return Ok(Value::Bool(compared(op, x, y)));
+    }
     match op {
-        Op::Add => Ok(Value::Int(as_int(x).wrapping_add(as_int(y)))),
-        Op::Sub => Ok(Value::Int(as_int(x).wrapping_sub(as_int(y)))),
-        Op::Mul => Ok(Value::Int(as_int(x).wrapping_mul(as_int(y)))),
-        Op::Div => divided(as_int(x), as_int(y)),
-        Op::Rem => remainder(as_int(x), as_int(y)),
-        Op::Mod => modulo(as_int(x), as_int(y)),
-        Op::Min => Ok(Value::Int(as_int(x).min(as_int(y)))),
-        Op::Max => Ok(Value::Int(as_int(x).max(as_int(y)))),
         Op::Join => joined(alloc, x, y),
-        Op::Eq => Ok(Value::Bool(is_equal(x, y))),
-        Op::Ne => Ok(Value::Bool(!is_equal(x, y))),
-        Op::Lt => Ok(Value::Bool(is_less(x, y))),
-        Op::Le => Ok(Value::Bool(!is_less(y, x))),
-        Op::Gt => Ok(Value::Bool(is_less(y, x))),
-        Op::Ge => Ok(Value::Bool(!is_less(x, y))),
-        Op::And | Op::Or => Ok(Value::Bool(as_bool(y))),
+        // It is `and` or `or`.
+        _ => Ok(Value::Bool(y.as_bool())),
+    }
+}
+
+/// An operation on two numbers that gives a number; 0 for any other operation.
+pub(crate) fn arithmetic(op: Op, a: i64, b: i64) -> Result<i64, EvalStop>
+    ensures { result ≡ arithmetic op a b }
+{
+    match op {
+        Op::Add => Ok(a.wrapping_add(b)),
+        Op::Sub => Ok(a.wrapping_sub(b)),
+        Op::Mul => Ok(a.wrapping_mul(b)),
+        Op::Div => divided(a, b),
+        Op::Rem => remainder(a, b),
+        Op::Mod => modulo(a, b),
+        Op::Min => Ok(a.min(b)),
+        Op::Max => Ok(a.max(b)),
+        _ => Ok(0),
+    }
+}
+
+/// A comparison of two values; false for any other operation.
+pub(crate) fn compared(op: Op, x: &Value, y: &Value) -> bool
+    ensures { result ≡ compared op x.now y.now }
+{
+    match op {
+        Op::Eq => is_equal(x, y),
+        Op::Ne => !is_equal(x, y),
+        Op::Lt => is_less(x, y),
+        Op::Le => !is_less(y, x),
+        Op::Gt => is_less(y, x),
+        Op::Ge => !is_less(x, y),
+        _ => false,
+    }
+}
+
+/// A comparison of two numbers; false for any other operation.
+pub(crate) fn compared_numbers(op: Op, a: i64, b: i64) -> bool
+    ensures { result ≡ compared op (Value.Int a) (Value.Int b) }
+{
+    match op {
+        Op::Eq => a == b,
+        Op::Ne => a != b,
+        Op::Lt => a < b,
+        Op::Le => a <= b,
+        Op::Gt => a > b,
+        Op::Ge => a >= b,
+        _ => false,
     }
 }
 
@@ -82,17 +133,24 @@ pub(crate) fn call(alloc: Global, word: Word, x: &Value) -> Result<Value, EvalSt
     ensures { result ≢ Err EvalStop.NoMemory → result ≡ call_of word x.now }
 {
     match word {
-        Word::Abs => Ok(Value::Int(absolute(as_int(x)))),
-        Word::Len => Ok(Value::Int(as_text(x).len() as i64)),
-        Word::Int => match spelled(as_text(x).as_bytes()) {
-            Some(n) => Ok(Value::Int(n)),
-            None => Err(EvalStop::NotANumber),
-        },
-        Word::TryInt => match spelled(as_text(x).as_bytes()) {
+        Word::Abs => Ok(Value::Int(absolute(x.as_int()))),
+        Word::Len => Ok(Value::Int(x.as_text().len() as i64)),
+        Word::Int => Ok(Value::Int(number_spelled(x.as_text())?)),
+        Word::TryInt => match spelled(x.as_text().as_bytes()) {
             Some(n) => Ok(Value::Int(n)),
             None => Ok(Value::Nothing),
         },
         Word::Text => Ok(Value::Text(text_of(alloc, x)?)),
+    }
+}
+
+/// The number that a text spells.
+pub(crate) fn number_spelled(text: &str) -> Result<i64, EvalStop>
+    ensures { result ≡ int_or_fault (number_or_fault (spelled text.now)) }
+{
+    match spelled(text.as_bytes()) {
+        Some(n) => Ok(n),
+        None => Err(EvalStop::NotANumber),
     }
 }
 
@@ -103,43 +161,38 @@ pub(crate) fn negated(n: i64) -> i64
     n.wrapping_neg()
 }
 
-fn absolute(n: i64) -> i64
+/// The number without its sign, which leaves the least number as it is.
+pub(crate) fn absolute(n: i64) -> i64
     ensures { result ≡ int_wrap w64 (pos (unsigned_abs n)) }
 {
     n.wrapping_abs()
 }
 
-fn divided(a: i64, b: i64) -> Result<Value, EvalStop>
-    ensures { result ≡ divided a b }
+fn divided(a: i64, b: i64) -> Result<i64, EvalStop>
+    ensures { result ≡ int_or_fault (divided a b) }
 {
-    if b == 0 {
-        return Err(EvalStop::DivideError);
+    match a.checked_div(b) {
+        Some(quotient) => Ok(quotient),
+        None => Err(EvalStop::DivideError),
     }
-    if b == -1 {
-        if a == i64::MIN {
-            return Err(EvalStop::DivideError);
-        }
-        return Ok(Value::Int(-a));
-    }
-    Ok(Value::Int(a / b))
 }
 
-fn remainder(a: i64, b: i64) -> Result<Value, EvalStop>
-    ensures { result ≡ remainder a b }
+fn remainder(a: i64, b: i64) -> Result<i64, EvalStop>
+    ensures { result ≡ int_or_fault (remainder a b) }
 {
     if b == 0 {
         return Err(EvalStop::DivideError);
     }
-    Ok(Value::Int(a.wrapping_rem(b)))
+    Ok(a.wrapping_rem(b))
 }
 
-fn modulo(a: i64, b: i64) -> Result<Value, EvalStop>
-    ensures { result ≡ modulo a b }
+fn modulo(a: i64, b: i64) -> Result<i64, EvalStop>
+    ensures { result ≡ int_or_fault (modulo a b) }
 {
     if b == 0 {
         return Err(EvalStop::DivideError);
     }
-    Ok(Value::Int(with_sign_of(b, a.wrapping_rem(b))))
+    Ok(with_sign_of(b, a.wrapping_rem(b)))
 }
 
 /// The remainder `r` of a division by `b`, moved to the sign of `b` where it isn't 0.
@@ -157,8 +210,8 @@ fn with_sign_of(b: i64, r: i64) -> i64
 fn joined(alloc: Global, x: &Value, y: &Value) -> Result<Value, EvalStop>
     ensures { result ≢ Err EvalStop.NoMemory → result ≡ joined x.now y.now }
 {
-    let a = as_text(x);
-    let b = as_text(y);
+    let a = x.as_text();
+    let b = y.as_text();
     if a.len() > TEXT_LIMIT || b.len() > TEXT_LIMIT - a.len() {
         return Err(EvalStop::TextTooLong);
     }

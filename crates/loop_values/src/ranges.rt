@@ -2,7 +2,6 @@ ghost use Rattle.std.specs.Prelude.{◌≡◌, ◌≢◌, ◌≤◌, Err, pos};
 ghost use Rattle.std.specs.FinMap as map;
 ghost use Rattle.loop_values.specs.InnerItems.{lies_behind, count_of, limited, ranged, range_of};
 
-use crate::operations::as_int;
 use crate::{Env, EvalStop, eval};
 use loop_data::RangeExpr;
 use std::alloc::Global;
@@ -33,15 +32,15 @@ pub fn eval_range(
     requires most { width ≤ 1000000 }
     ensures { result ≢ Err EvalStop.NoMemory → result ≡ range_of range.now (map.get env.now) width }
 {
-    let first = as_int(&eval(alloc, &range.first, env)?);
+    let first = eval(alloc, &range.first, env)?.as_int();
     match &range.step {
         None => {
-            let last = as_int(&eval(alloc, &range.last, env)?);
+            let last = eval(alloc, &range.last, env)?.as_int();
             ranged(width, first, 1, last)
         }
         Some(step) => {
-            let step = as_int(&eval(alloc, step, env)?);
-            let last = as_int(&eval(alloc, &range.last, env)?);
+            let step = eval(alloc, step, env)?.as_int();
+            let last = eval(alloc, &range.last, env)?.as_int();
             ranged(width, first, step, last)
         }
     }

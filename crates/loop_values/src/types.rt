@@ -1,4 +1,4 @@
-ghost use Rattle.std.specs.Prelude.{◌≡◌, OnOk, OnErr};
+ghost use Rattle.std.specs.Prelude.{◌≡◌, ◌≢◌, None, OnOk, OnErr, IsOk};
 ghost use Rattle.std.specs.Option.{option_copied};
 ghost use Rattle.std.specs.FinMap as map;
 
@@ -51,6 +51,7 @@ impl Types {
     pub fn set(&mut self, alloc: Global, name: &str, kind: ValueKind) -> Result<(), NoMemory>
         ensures ok { OnOk result (self.new ≡ map.insert self.old name.now kind) }
         ensures err { OnErr result (self.new ≡ self.old) }
+        ensures known { map.get self.old name.now ≢ None → IsOk result }
     {
         set_entry(alloc, &mut self.held, name, kind)
     }
