@@ -4,7 +4,7 @@ use Rattle.std.proofs.lemmas.Cmp.{nat_list_cmp_total}
 use Rattle.std.specs.Ordering.{nat_cmp, eq_by_cmp}
 use Rattle.std.specs.Cmp.Lexicographic.{slice_cmp}
 use Rattle.std.specs.Str.{bytes_eq}
-use Rattle.std.specs.FinMap.{get, insert, get-insert, same_map, slice_cmp-IsAntisymmetric, nat_cmp-IsAntisymmetric}
+use Rattle.std.specs.FinMap.{FinMap, get, insert, get-insert, same_map, slice_cmp-IsAntisymmetric, nat_cmp-IsAntisymmetric}
 use Rattle.loop_data.specs.declared.value.Value.{Value}
 use Rattle.loop_data.specs.declared.expr.Expr.TheVariants as e
 use Rattle.loop_values.specs.Bindings.{Bindings, Names}
@@ -20,27 +20,28 @@ apart_false : (q k : List ℕ) (b : Bool) → bytes_eq q k ≡ b → q ≢ k →
 apart_false q k true e ne = absurd (ne (same_text q k e))
 apart_false q k false e ne = refl
 
-pub get-bound : (env : Bindings) (n : List ℕ) (v : Value) → get (insert env n v) n ≡ Some v
-get-bound env n v =
-    get-insert nat_list_cmp_total env n v n ∙ ap (λ b. cond b (Some v) (get env n)) (at_text n n ∙ same_self n)
+module _ {X : Type 0} where
+  pub get-bound : (env : FinMap (slice_cmp nat_cmp) X) (n : List ℕ) (v : X) → get (insert env n v) n ≡ Some v
+  get-bound env n v =
+      get-insert nat_list_cmp_total env n v n ∙ ap (λ b. cond b (Some v) (get env n)) (at_text n n ∙ same_self n)
 
-pub get-other : (env : Bindings) (m n : List ℕ) (v : Value) → n ≢ m → get (insert env m v) n ≡ get env n
-get-other env m n v ne =
-    get-insert nat_list_cmp_total env m v n ∙ ap (λ b. cond b (Some v) (get env n)) (at_text n m ∙ apart_false n m (bytes_eq n m) refl ne)
+  pub get-other : (env : FinMap (slice_cmp nat_cmp) X) (m n : List ℕ) (v : X) → n ≢ m → get (insert env m v) n ≡ get env n
+  get-other env m n v ne =
+      get-insert nat_list_cmp_total env m v n ∙ ap (λ b. cond b (Some v) (get env n)) (at_text n m ∙ apart_false n m (bytes_eq n m) refl ne)
 
-swapped : (b c : Bool) (x y z : Option Value) → (b ≡ true → c ≡ true → ⊥) → cond b x (cond c y z) ≡ cond c y (cond b x z)
-swapped true true x y z ne = absurd (ne refl refl)
-swapped true false x y z ne = refl
-swapped false c x y z ne = refl
+  swapped : (b c : Bool) (x y z : Option X) → (b ≡ true → c ≡ true → ⊥) → cond b x (cond c y z) ≡ cond c y (cond b x z)
+  swapped true true x y z ne = absurd (ne refl refl)
+  swapped true false x y z ne = refl
+  swapped false c x y z ne = refl
 
-pub insert_comm : (env : Bindings) (m n : List ℕ) (v w : Value) → m ≢ n → insert (insert env m v) n w ≡ insert (insert env n w) m v
-insert_comm env m n v w ne =
-    same_map nat_list_cmp_total (slice_cmp-IsAntisymmetric nat_cmp-IsAntisymmetric) _ _ (λ q.
-    get-insert nat_list_cmp_total (insert env m v) n w q
-    ∙ ap (cond (is_at q n) (Some w)) (get-insert nat_list_cmp_total env m v q)
-    ∙ swapped (is_at q n) (is_at q m) (Some w) (Some v) (get env q) (λ a b. ne (sym (same_text q m (sym (at_text q m) ∙ b)) ∙ same_text q n (sym (at_text q n) ∙ a)))
-    ∙ sym (ap (cond (is_at q m) (Some v)) (get-insert nat_list_cmp_total env n w q))
-    ∙ sym (get-insert nat_list_cmp_total (insert env n w) m v q))
+  pub insert_comm : (env : FinMap (slice_cmp nat_cmp) X) (m n : List ℕ) (v w : X) → m ≢ n → insert (insert env m v) n w ≡ insert (insert env n w) m v
+  insert_comm env m n v w ne =
+      same_map nat_list_cmp_total (slice_cmp-IsAntisymmetric nat_cmp-IsAntisymmetric) _ _ (λ q.
+      get-insert nat_list_cmp_total (insert env m v) n w q
+      ∙ ap (cond (is_at q n) (Some w)) (get-insert nat_list_cmp_total env m v q)
+      ∙ swapped (is_at q n) (is_at q m) (Some w) (Some v) (get env q) (λ a b. ne (sym (same_text q m (sym (at_text q m) ∙ b)) ∙ same_text q n (sym (at_text q n) ∙ a)))
+      ∙ sym (ap (cond (is_at q m) (Some v)) (get-insert nat_list_cmp_total env n w q))
+      ∙ sym (get-insert nat_list_cmp_total (insert env n w) m v q))
 
 -- a name that is bound to v has the value v
 pub value_of-bound : (env : Names) (n : List ℕ) (v : Value) → env n ≡ Some v → value_of (e.Name n) env ≡ Ok v

@@ -1,10 +1,16 @@
 pub mod BindingLaws
 pub mod DecimalLemmas
 pub mod EntryLemmas
+pub mod FaultLemmas
+pub mod FormedLemmas
 pub mod KindLemmas
+pub mod KindNames
 pub mod Layers
 pub mod NamesLemmas
+pub mod PlainLemmas
+pub mod RangeLemmas
 pub mod SameLemmas
 pub mod ScalarLemmas
 pub mod SoundLemmas
 pub mod SpellingLemmas
+pub mod StrictLemmas

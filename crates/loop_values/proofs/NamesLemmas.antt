@@ -10,11 +10,11 @@ use Rattle.loop_data.specs.ValueParts.{as_bool}
 use Rattle.loop_values.specs.Values.{Meaning, value_of, value_step, bound, second, other_of, part_values}
 use Rattle.loop_values.specs.NamesIn.{names_in, names_step, all_names, SameAt}
 
-front : (f g : Names) (xs ys : List (List ℕ)) → SameAt f g (xs ++ ys) → SameAt f g xs
+pub front : (f g : Names) (xs ys : List (List ℕ)) → SameAt f g (xs ++ ys) → SameAt f g xs
 front f g [] ys h = tt
 front f g (x ∷ xs) ys h = (h.0, front f g xs ys h.1)
 
-back : (f g : Names) (xs ys : List (List ℕ)) → SameAt f g (xs ++ ys) → SameAt f g ys
+pub back : (f g : Names) (xs ys : List (List ℕ)) → SameAt f g (xs ++ ys) → SameAt f g ys
 back f g [] ys h = h
 back f g (x ∷ xs) ys h = back f g xs ys h.1
 

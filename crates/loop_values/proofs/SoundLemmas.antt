@@ -30,39 +30,39 @@ use Rattle.loop_values.specs.Fits.{fits, fits_at, all_fit, Agree, IsFit}
 abbrev int_value : ℤ → Outcome
 int_value n = Ok (Int n)
 
-maybe_eq : (x : ValueKind) (v : Value) → fits (kind.Maybe x) v ≡ fits_at (k.Maybe (fits x)) (out-Value v) v
+pub maybe_eq : (x : ValueKind) (v : Value) → fits (kind.Maybe x) v ≡ fits_at (k.Maybe (fits x)) (out-Value v) v
 maybe_eq x v = search (rules, value_lemmas, kind_lemmas)
 
-fits-Int : (n : ℤ) → fits kind.Int (Int n) ≡ true
+pub fits-Int : (n : ℤ) → fits kind.Int (Int n) ≡ true
 fits-Int n = search (rules, value_lemmas, kind_lemmas)
 
-fits-Bool : (b : Bool) → fits kind.Bool (BoolV b) ≡ true
+pub fits-Bool : (b : Bool) → fits kind.Bool (BoolV b) ≡ true
 fits-Bool b = search (rules, value_lemmas, kind_lemmas)
 
-fits-Text : (t : List ℕ) → fits kind.Text (Text t) ≡ true
+pub fits-Text : (t : List ℕ) → fits kind.Text (Text t) ≡ true
 fits-Text t = search (rules, value_lemmas, kind_lemmas)
 
-fits-Nothing : (x : ValueKind) → fits (kind.Maybe x) Nothing ≡ true
+pub fits-Nothing : (x : ValueKind) → fits (kind.Maybe x) Nothing ≡ true
 fits-Nothing x = search (rules, value_lemmas, kind_lemmas)
 
-fits-Tuple : (ks : List ValueKind) (vs : List Value) → fits (kind.Tuple ks) (Tuple vs) ≡ all_fit (map fits ks) vs
+pub fits-Tuple : (ks : List ValueKind) (vs : List Value) → fits (kind.Tuple ks) (Tuple vs) ≡ all_fit (map fits ks) vs
 fits-Tuple ks vs = search (rules, value_lemmas, kind_lemmas)
 
-kind_if-ok : (b : Bool) (x y : ValueKind) → kind_if b x ≡ Ok y → (b ≡ true) × (x ≡ y)
+pub kind_if-ok : (b : Bool) (x y : ValueKind) → kind_if b x ≡ Ok y → (b ≡ true) × (x ≡ y)
 kind_if-ok true x y e = (refl, cc)
 kind_if-ok false x y e = absurd (cc)
 
-then-ok : (r : Kinded) (f : ValueKind → Kinded) (y : ValueKind) → kn.and_then r f ≡ Ok y → (x : ValueKind) × (r ≡ Ok x) × (f x ≡ Ok y)
+pub then-ok : (r : Kinded) (f : ValueKind → Kinded) (y : ValueKind) → kn.and_then r f ≡ Ok y → (x : ValueKind) × (r ≡ Ok x) × (f x ≡ Ok y)
 then-ok (Ok x) f y e = (x, refl, e)
 then-ok (Err s) f y e = absurd (cc)
 
-ok-same : (v w : Value) → ◌≡◌ {A = Outcome} (Ok v) (Ok w) → v ≡ w
+pub ok-same : (v w : Value) → ◌≡◌ {A = Outcome} (Ok v) (Ok w) → v ≡ w
 ok-same v w e = cc
 
-value-fits : (x : ValueKind) (v : Value) → fits x v ≡ true → IsFit x (Ok v)
+pub value-fits : (x : ValueKind) (v : Value) → fits x v ≡ true → IsFit x (Ok v)
 value-fits x v h = record { fit = λ w e. subst (λ u. fits x u ≡ true) (ok-same v w e) h }
 
-fault-fits : (x : ValueKind) (s : _) → IsFit x (Err s)
+pub fault-fits : (x : ValueKind) (s : _) → IsFit x (Err s)
 fault-fits x s = record { fit = λ w e. absurd (cc) }
 
 then-fits : (x y : ValueKind) (r : Outcome) (g : Value → Outcome) → IsFit x r → ((v : Value) → fits x v ≡ true → IsFit y (g v)) → IsFit y (ev.and_then r g)
@@ -73,15 +73,15 @@ if-fits : (x : ValueKind) (b : Bool) (r s : Outcome) → IsFit x r → IsFit x s
 if-fits x true r s h k = h
 if-fits x false r s h k = k
 
-is_int-is : (x : ValueKind) → is_int x ≡ true → x ≡ kind.Int
+pub is_int-is : (x : ValueKind) → is_int x ≡ true → x ≡ kind.Int
 is_int-is kind.Int e = refl
 is_int-is _ e = absurd (cc)
 
-is_bool-is : (x : ValueKind) → is_bool x ≡ true → x ≡ kind.Bool
+pub is_bool-is : (x : ValueKind) → is_bool x ≡ true → x ≡ kind.Bool
 is_bool-is kind.Bool e = refl
 is_bool-is _ e = absurd (cc)
 
-is_text-is : (x : ValueKind) → is_text x ≡ true → x ≡ kind.Text
+pub is_text-is : (x : ValueKind) → is_text x ≡ true → x ≡ kind.Text
 is_text-is kind.Text e = refl
 is_text-is _ e = absurd (cc)
 
@@ -96,7 +96,7 @@ is_bool_value x c b e = subst (λ y. IsFit y (ev.truth c)) (kind_if-ok b kind.Bo
 is_text_value : (x : ValueKind) (t : List ℕ) (b : Bool) → kind_if b kind.Text ≡ Ok x → IsFit x (Ok (Text t))
 is_text_value x t b e = subst (λ y. IsFit y (Ok (Text t))) (kind_if-ok b kind.Text x e).1 (value-fits _ _ (fits-Text t))
 
-both-true : (a b : Bool) → (a && b) ≡ true → (a ≡ true) × (b ≡ true)
+pub both-true : (a b : Bool) → (a && b) ≡ true → (a ≡ true) × (b ≡ true)
 both-true true true e = (refl, refl)
 both-true true false e = absurd (cc)
 both-true false b e = absurd (cc)
@@ -140,7 +140,7 @@ maybe_layer : (f : Value → Bool) (z : Value-F Value) (v : Value) → f v ≡ t
 maybe_layer f val.Nothing v e = refl
 maybe_layer f _ v e = e
 
-fits-Maybe : (x : ValueKind) (v : Value) → fits x v ≡ true → fits (kind.Maybe x) v ≡ true
+pub fits-Maybe : (x : ValueKind) (v : Value) → fits x v ≡ true → fits (kind.Maybe x) v ≡ true
 fits-Maybe x v e = maybe_eq x v ∙ maybe_layer (fits x) (out-Value v) v e
 
 number_or_nothing-fits : (x : ValueKind) (n : Option ℤ) (b : Bool) → kind_if b (kind.Maybe kind.Int) ≡ Ok x → IsFit x (ev.number_or_nothing n)
@@ -154,7 +154,7 @@ call-fits word.Int x z v e = number_or_fault-fits z _ _ e
 call-fits word.TryInt x z v e = number_or_nothing-fits z _ _ e
 call-fits word.Text x z v e = is_text_value z _ _ e
 
-ok_kind : (x y : ValueKind) → ◌≡◌ {A = Kinded} (Ok x) (Ok y) → x ≡ y
+pub ok_kind : (x y : ValueKind) → ◌≡◌ {A = Kinded} (Ok x) (Ok y) → x ≡ y
 ok_kind x y e = cc
 
 decided-fits : (o : Op) (x y z : ValueKind) (v : Value) (b : Bool) → ev.decides o v ≡ b → kn.two_kind o x y ≡ Ok z → (r : Outcome) → IsFit z r → IsFit z (if b then ev.truth (as_bool v) else r)
@@ -187,11 +187,11 @@ bare s = s.0
 at_kind : (x z : ValueKind) (v : Value) → ◌≡◌ {A = Kinded} (Ok x) (Ok z) → fits x v ≡ true → IsFit z (Ok v)
 at_kind x z v e h = subst (λ y. IsFit y (Ok v)) (ok_kind x z e) (value-fits x v h)
 
-bool_then : (b : Bool) (r : Kinded) (z : ValueKind) → (if b then r else Err Differs) ≡ Ok z → (b ≡ true) × (r ≡ Ok z)
+pub bool_then : (b : Bool) (r : Kinded) (z : ValueKind) → (if b then r else Err Differs) ≡ Ok z → (b ≡ true) × (r ≡ Ok z)
 bool_then true r z e = (refl, e)
 bool_then false r z e = absurd (cc)
 
-bool_else : (b : Bool) (r : Kinded) (z : ValueKind) → (if b then Err Differs else r) ≡ Ok z → r ≡ Ok z
+pub bool_else : (b : Bool) (r : Kinded) (z : ValueKind) → (if b then Err Differs else r) ≡ Ok z → r ≡ Ok z
 bool_else true r z e = absurd (cc)
 bool_else false r z e = e
 
@@ -205,11 +205,11 @@ place_at z env b e =
     let p = b.0 refl in
     subst (λ r. IsFit z (va.bound r)) (sym p.1) (at_kind kind.Int z (Int p.0) e (fits-Int p.0))
 
-front : (env : Names) (xs ys : List (List ℕ)) → PlaceIsBound env (xs ++ ys) → PlaceIsBound env xs
+pub front : (env : Names) (xs ys : List (List ℕ)) → PlaceIsBound env (xs ++ ys) → PlaceIsBound env xs
 front env [] ys h = tt
 front env (x ∷ xs) ys h = (h.0, front env xs ys h.1)
 
-back : (env : Names) (xs ys : List (List ℕ)) → PlaceIsBound env (xs ++ ys) → PlaceIsBound env ys
+pub back : (env : Names) (xs ys : List (List ℕ)) → PlaceIsBound env (xs ++ ys) → PlaceIsBound env ys
 back env [] ys h = h
 back env (x ∷ xs) ys h = back env xs ys h.1
 
@@ -220,11 +220,11 @@ maybe_if false y v e = fits-Maybe y v e
 maybe_of-fits : (y : ValueKind) (v : Value) → fits y v ≡ true → fits (kn.maybe_of y) v ≡ true
 maybe_of-fits y v e = maybe_if (is_maybe y) y v e
 
-maybe_at : (z : ValueKind-F ValueKind) → kn.is_maybe_at z ≡ true → (x : ValueKind) × (z ≡ k.Maybe x)
+pub maybe_at : (z : ValueKind-F ValueKind) → kn.is_maybe_at z ≡ true → (x : ValueKind) × (z ≡ k.Maybe x)
 maybe_at (k.Maybe x) e = (x, refl)
 maybe_at _ e = absurd (cc)
 
-rolled : (b : ValueKind) → roll-ValueKind (out-ValueKind b) ≡ b
+pub rolled : (b : ValueKind) → roll-ValueKind (out-ValueKind b) ≡ b
 rolled b = search (rules, kind_lemmas)
 
 nothing_if : (b : Bool) (y : ValueKind) → is_maybe y ≡ b → fits (if b then y else kind.Maybe y) Nothing ≡ true
@@ -234,7 +234,7 @@ nothing_if true y e =
     subst (λ x. fits x Nothing ≡ true) same (fits-Nothing h.0)
 nothing_if false y e = fits-Nothing y
 
-append_fit : (ks : List ValueKind) (vs : List Value) (x : ValueKind) (v : Value) → all_fit (map fits ks) vs ≡ true → fits x v ≡ true → all_fit (map fits (ks ++ x ∷ [])) (vs ++ v ∷ []) ≡ true
+pub append_fit : (ks : List ValueKind) (vs : List Value) (x : ValueKind) (v : Value) → all_fit (map fits ks) vs ≡ true → fits x v ≡ true → all_fit (map fits (ks ++ x ∷ [])) (vs ++ v ∷ []) ≡ true
 append_fit [] [] x v h e = ap (λ b. b && true) e
 append_fit [] (w ∷ vs) x v h e = absurd (cc)
 append_fit (y ∷ ks) [] x v h e = absurd (cc)

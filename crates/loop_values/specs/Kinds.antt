@@ -1,6 +1,7 @@
 -- The kind of an expression under the kinds of its names, or that it has none. Source: this project.
 -- A kind is Int, Bool, Text, Tuple of 2 to 4 kinds, or Maybe of a kind; Maybe stands only on the outside.
-use Rattle.std.specs.Prelude.{ℕ, Bool, true, false, ◌&&◌, ◌||◌, if◌then◌else◌, nat_le, List, [], ◌∷◌, ◌++◌, length, Option, Some, None, Result, Ok, Err}
+use Rattle.std.specs.Prelude.{◌≡◌, ℕ, Bool, true, false, ◌&&◌, ◌||◌, if◌then◌else◌, nat_le, List, [], ◌∷◌, ◌++◌, length, Option, Some, None, Result, Ok, Err}
+use Rattle.std.specs.List.{list_all}
 use Rattle.loop_data.specs.declared.value.Value.{Value}
 use Rattle.loop_data.specs.declared.value.Value.TheVariants as value
 use Rattle.loop_data.specs.declared.value.ValueKind.{ValueKind, out-ValueKind}
@@ -156,3 +157,31 @@ kind_step (e.Tuple ps) names = part_kinds [] ps names
 
 abbrev pub kind_of : Expr → Typing
 kind_of = fold-Expr Typing kind_step
+
+-- ---- well-formed kinds
+
+-- a kind with no Maybe in it, given whether its parts are such
+abbrev pub plain_kind_step : ValueKind-F Bool → Bool
+plain_kind_step (k.Tuple ps) = is_tuple_length (length ps) && list_all (λ p. p) ps
+plain_kind_step (k.Maybe p) = false
+plain_kind_step _ = true
+
+-- Int, Bool, Text, or a tuple of 2 to 4 such kinds
+abbrev pub is_plain_kind : ValueKind → Bool
+is_plain_kind = fold-ValueKind Bool plain_kind_step
+
+abbrev pub inside_maybe_at : ValueKind-F ValueKind → ValueKind → ValueKind
+inside_maybe_at (k.Maybe y) x = y
+inside_maybe_at _ x = x
+
+-- the kind within Maybe, where it is Maybe, else the kind itself
+abbrev pub inside_maybe : ValueKind → ValueKind
+inside_maybe x = inside_maybe_at (out-ValueKind x) x
+
+-- Maybe stands only on the outside, and a tuple has 2 to 4 parts
+abbrev pub is_well_formed : ValueKind → Bool
+is_well_formed x = is_plain_kind (inside_maybe x)
+
+-- the kinds of names are well formed
+abbrev pub AreWellFormed : Kinds → Type 0
+AreWellFormed names = (q : List ℕ) (x : ValueKind) → names q ≡ Some x → is_well_formed x ≡ true

@@ -3,9 +3,11 @@ pub mod Entries
 pub mod Fits
 pub mod InnerItems
 pub mod Kinds
+pub mod Laws
 pub mod NamesIn
 pub mod Operations
 pub mod Seen
 pub mod Spelling
 pub mod Stops
+pub mod StrictValues
 pub mod Values

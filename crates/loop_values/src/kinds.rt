@@ -66,7 +66,8 @@ pub fn type_of(alloc: Global, expr: &Expr, names: &Types) -> Result<ValueKind, T
 
 /// Whether two kinds are one. It takes no memory.
 pub fn is_same_kind(a: &ValueKind, b: &ValueKind) -> bool
-    ensures { IsTrue result ↔ (a.now ≡ b.now) }
+    ensures value { result ≡ same_kind a.now b.now }
+    ensures same { IsTrue result ↔ (a.now ≡ b.now) }
 {
     same_kind(a, b)
 }

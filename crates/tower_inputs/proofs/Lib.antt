@@ -1,0 +1,5 @@
+pub mod InputFaults
+pub mod InputFits
+pub mod InputNames
+pub mod SameKinds
+pub mod SameTowers

@@ -1,0 +1,4 @@
+pub mod InputKinds
+pub mod Inputs
+pub mod Laws
+pub mod Towers
