@@ -1,12 +1,11 @@
 -- Steps keep the rule, and what the rule says of the seat with the whole weight.
-use Rattle.std.proofs.Common.{◌≡◌, ◌≢◌, ℕ, ◌≤◌, min, List, [], ◌∷◌, set, refl, sym, ◌∙◌, inl, subst, arith}
+use Rattle.std.proofs.Common.{◌≡◌, ℕ, ◌≤◌, List, [], ◌∷◌, refl, ◌∙◌, inl, arith}
 use mathlib.Core.Option.{some}
 use lib.ListN.{get_elem?}
-use Rattle.std.specs.List.{All}
 use Rattle.std.proofs.lemmas.List.Elements.{All-nil, All-cons}
 use Rattle.atomic_table.proofs.Lists.{set_else}
 use Rattle.stop_word.specs.declared.views.StopView.{StopView}
-use Rattle.stop_word.specs.Numbers.{no_stop, whole_weight, least_of, AreAmong, IsAtMost}
+use Rattle.stop_word.specs.Numbers.{no_stop, whole_weight}
 use Rattle.stop_word.specs.Rule.{StopRule, IsIdleEmpty}
 use Rattle.stop_word.specs.Steps.{first_view, both_view, IsStep, a_load, a_report, a_split, a_join, a_closing, IsReached, the_making, then_a_step}
 use Rattle.stop_word.specs.Laws.{KnowsAll}
