@@ -1,8 +1,8 @@
 //! The program: its words, its commands, and the top call [`floop_words`].
 //!
 //! The clauses of [`floop_words`] are what floop is for: where files and sink tell their bytes and no fault is
-//! counted, the status and the bytes written are those of the answer, which specs/Answers defines by the plain
-//! loop of specs/PlainLoop alone.
+//! counted, the status and the bytes written are those of the answer, which specs/Answers defines: by the words, the
+//! first refusal of the loop file, and the plain loop of specs/PlainLoop.
 #![tactic(auto)]
 
 mod answer;

@@ -5,6 +5,7 @@ ghost use Rattle.loop_data.specs.declared.value.ValueKind as value_kind;
 ghost use Rattle.loop_values.specs.Laws.{ValueFitsKind, NoDefaultIsAsked, ValueDependsOnItsNames, KindDependsOnItsNames, KindsAreWellFormed, NotNothingFits, FittingIsPlain, TuplesFitByParts, ValuesHaveThreeFaults, RangesHaveFiveFaults, KindsDifferOnly, RangesStandForTheirItems, ItemsAreCounted, ItemsLieBetween, RangeDependsOnItsNames, BoundNameHasItsValue, OtherNamesKeepTheirs, NamesBindInEitherOrder, DecimalSpellsItsNumber};
 
 use crate::{Env, EvalStop, InnerRange, TypeStop, Types};
+use loop_data::laws::is_shared;
 
 /// What `eval` gives fits the kind that `type_of` gives, where the values of names fit their kinds and `place`, where the
 /// expression holds it, is bound to a number.
@@ -96,8 +97,6 @@ pub fn names_bind_in_either_order()
 pub fn decimal_text_spells_its_number()
     ensures { DecimalSpellsItsNumber }
 {}
-
-fn is_shared<T: Send + Sync>() {}
 
 /// Threads share bindings, kinds of names and ranges, and hand them to each other.
 pub fn threads_share_bindings() {

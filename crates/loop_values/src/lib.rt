@@ -1,8 +1,7 @@
-//! What expressions of the loop language mean: the values of names, the value of an expression, its kind, inner ranges, and
-//! the results of towers.
+//! What expressions of the loop language mean: the values of names, the value of an expression, its kind, and inner ranges.
 //!
-//! The definitions stand in specs/: `value_of` (Values), `kind_of` (Kinds), `inner_items` (InnerItems), `result_of` and
-//! `result_text` (Results, ResultTexts). The functions compute them: [`eval`], [`type_of`] and [`eval_range`].
+//! The definitions stand in specs/: `value_of` (Values), `kind_of` (Kinds) and `inner_items` (InnerItems). The functions
+//! compute them: [`eval`], [`type_of`] and [`eval_range`].
 #![tactic(auto)]
 
 mod entries;
