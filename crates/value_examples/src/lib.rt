@@ -1,4 +1,4 @@
-//! Worked examples of values, kinds, ranges and results, and of the crates that they stand on.
+//! Worked examples of results, of names and data, and of reducers.
 //!
 //! What lists of inputs come to is worked in [`results`], as theorems. The other examples are tests.
 #![tactic(auto)]

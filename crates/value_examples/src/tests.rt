@@ -1,14 +1,7 @@
-//! Worked by hand from the language's tables: what operations, spellings, kinds and ranges give, and that ample memory is
-//! enough for each call.
+//! Worked by hand: what names are bound to, how texts and lists stand, and that inputs cut in parts give the state of the whole.
+//! What expressions give is tried in the crate `expr_tests`.
 
 mod bindings;
-mod copies;
 mod data;
-mod faults;
 mod groups;
-mod kinds;
-mod numbers;
-mod ranges;
 mod reducers;
-mod texts;
-mod trees;
