@@ -34,9 +34,9 @@ pub fn fault_word(stop: EvalStop) -> &'static str {
     match stop {
         EvalStop::DivideError => "division error",
         EvalStop::NotANumber => "not a number",
-        EvalStop::TooManyInner => "too many body runs",
+        EvalStop::TooManyInner => "too many inner items",
         EvalStop::TextTooLong => "text too long",
-        EvalStop::StepZero => "step of 0",
+        EvalStop::StepZero => "step is zero",
         EvalStop::NoMemory => "no memory",
     }
 }

@@ -134,34 +134,38 @@ static RANGES: [(&str, u64, &str); 47] = [
     (
         "-9223372036854775808:18446744073709:9223372036854775807",
         1,
-        "too many body runs",
+        "too many inner items",
     ),
     // At most 1,000,000 body runs.
     ("1:1000000", 1, "1000000 from 1 by 1"),
-    ("1:1000001", 1, "too many body runs"),
+    ("1:1000001", 1, "too many inner items"),
     ("-1:-1:-1000000", 1, "1000000 from -1 by -1"),
-    ("-1:-1:-1000001", 1, "too many body runs"),
+    ("-1:-1:-1000001", 1, "too many inner items"),
     ("1:1000", 1000, "1000 from 1 by 1"),
-    ("1:1001", 1000, "too many body runs"),
+    ("1:1001", 1000, "too many inner items"),
     ("1:1", 1000000, "1 from 1 by 1"),
-    ("1:2", 1000000, "too many body runs"),
+    ("1:2", 1000000, "too many inner items"),
     ("2:1", 1000000, "0 from 2 by 1"),
     (
         "-9223372036854775808:9223372036854775807",
         1,
-        "too many body runs",
+        "too many inner items",
     ),
     (
         "9223372036854775807:-1:-9223372036854775808",
         1000000,
-        "too many body runs",
+        "too many inner items",
     ),
-    // A step of 0.
-    ("1:0:5", 1, "step of 0"),
-    ("5:0:1", 1, "step of 0"),
-    ("1:0:1", 1000000, "step of 0"),
-    ("-9223372036854775808:0:9223372036854775807", 1, "step of 0"),
-    // Bounds from left to right, and their faults before the step of 0.
+    // A step is zero.
+    ("1:0:5", 1, "step is zero"),
+    ("5:0:1", 1, "step is zero"),
+    ("1:0:1", 1000000, "step is zero"),
+    (
+        "-9223372036854775808:0:9223372036854775807",
+        1,
+        "step is zero",
+    ),
+    // Bounds from left to right, and their faults before the step is zero.
     ("1:2:x + 2", 1, "5 from 1 by 2"),
     ("1 div 0:int(\"x\"):1", 1, "division error"),
     ("1:int(\"x\"):1 div 0", 1, "not a number"),
