@@ -1,5 +1,6 @@
 pub mod BindingLaws
 pub mod DecimalLemmas
+pub mod DivisionLemmas
 pub mod EntryLemmas
 pub mod FaultLemmas
 pub mod FormedLemmas

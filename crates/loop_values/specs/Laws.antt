@@ -8,7 +8,7 @@ use Rattle.std.specs.FinMap.{FinMap, insert, get}
 use Rattle.number_ranges.specs.Ranges.{range_item}
 use Rattle.number_ranges.specs.Laws.{LiesBetween}
 use Rattle.loop_data.specs.declared.value.Value.{Value}
-use Rattle.loop_data.specs.declared.value.Value.TheVariants.{Nothing, Tuple}
+use Rattle.loop_data.specs.declared.value.Value.TheVariants.{Int, Nothing, Tuple}
 use Rattle.loop_data.specs.declared.value.ValueKind.{ValueKind}
 use Rattle.loop_data.specs.declared.value.ValueKind.TheVariants as kind
 use Rattle.loop_data.specs.declared.expr.Expr.{Expr}
@@ -20,10 +20,12 @@ use Rattle.loop_values.specs.declared.stop.EvalStop.TheVariants as stop
 use Rattle.loop_values.specs.declared.stop.TypeStop.{TypeStop}
 use Rattle.loop_values.specs.declared.stop.TypeStop.TheVariants.{Differs}
 use Rattle.loop_values.specs.Bindings.{Names}
+use Rattle.loop_values.specs.Division.{IsModulo}
 use Rattle.loop_values.specs.Fits.{Agree, IsFit, all_fit, fits, is_plain}
 use Rattle.loop_values.specs.InnerItems.{inner_items, items_of, items_or_fault, range_of}
 use Rattle.loop_values.specs.Kinds.{Kinds, AreWellFormed, is_maybe, is_well_formed, kind_of}
 use Rattle.loop_values.specs.NamesIn.{PlaceIsBound, SameAt, names_in, names_in_range, names_read}
+use Rattle.loop_values.specs.Operations.{modulo}
 use Rattle.loop_values.specs.Spelling.{spelled}
 use Rattle.loop_values.specs.StrictValues.{strict_value_of}
 use Rattle.loop_values.specs.Values.{value_of}
@@ -145,3 +147,9 @@ NamesBindInEitherOrder X = (env : ByName X) (m n : List ℕ) (x y : X) → m ≢
 abbrev pub DecimalSpellsItsNumber : Type 0
 DecimalSpellsItsNumber = (n : ℤ) → negsuc 9223372036854775807 ≤ℤ n → n ≤ℤ pos 9223372036854775807 →
     spelled (signed_decimal n) ≡ Some n
+
+-- ---- what `mod` leaves
+
+-- wherever the divisor isn't 0 there is a rest, which lies between 0 and the divisor and leaves a multiple of it
+abbrev pub ModuloSplits : Type 0
+ModuloSplits = (a b : ℤ) → b ≢ pos 0 → (m : ℤ) × (modulo a b ≡ Ok (Int m)) × IsModulo a b m

@@ -1,4 +1,5 @@
 pub mod Bindings
+pub mod Division
 pub mod Entries
 pub mod Fits
 pub mod InnerItems

@@ -2,7 +2,7 @@
 
 ghost use Rattle.loop_data.specs.declared.value.Value as value;
 ghost use Rattle.loop_data.specs.declared.value.ValueKind as value_kind;
-ghost use Rattle.loop_values.specs.Laws.{ValueFitsKind, NoDefaultIsAsked, ValueDependsOnItsNames, KindDependsOnItsNames, KindsAreWellFormed, NotNothingFits, FittingIsPlain, TuplesFitByParts, ValuesHaveThreeFaults, RangesHaveFiveFaults, KindsDifferOnly, RangesStandForTheirItems, ItemsAreCounted, ItemsLieBetween, RangeDependsOnItsNames, BoundNameHasItsValue, OtherNamesKeepTheirs, NamesBindInEitherOrder, DecimalSpellsItsNumber};
+ghost use Rattle.loop_values.specs.Laws.{ValueFitsKind, NoDefaultIsAsked, ValueDependsOnItsNames, KindDependsOnItsNames, KindsAreWellFormed, NotNothingFits, FittingIsPlain, TuplesFitByParts, ValuesHaveThreeFaults, RangesHaveFiveFaults, KindsDifferOnly, RangesStandForTheirItems, ItemsAreCounted, ItemsLieBetween, RangeDependsOnItsNames, BoundNameHasItsValue, OtherNamesKeepTheirs, NamesBindInEitherOrder, DecimalSpellsItsNumber, ModuloSplits};
 
 use crate::{Env, EvalStop, InnerRange, TypeStop, Types};
 use loop_data::laws::is_shared;
@@ -96,6 +96,11 @@ pub fn names_bind_in_either_order()
 /// The decimal text of a number of 64 bits spells that number.
 pub fn decimal_text_spells_its_number()
     ensures { DecimalSpellsItsNumber }
+{}
+
+/// What `mod` gives for a divisor that isn't 0 lies between 0 and the divisor, and leaves a multiple of it.
+pub fn modulo_splits()
+    ensures { ModuloSplits }
 {}
 
 /// Threads share bindings, kinds of names and ranges, and hand them to each other.
