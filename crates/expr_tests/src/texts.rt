@@ -76,31 +76,6 @@ fn joins_lengths_and_texts(rt: HostRuntime) -> Result<(), Fail> {
     check(&rt, rt.alloc(), &JOINS)
 }
 
-/// The lengths of two texts, and the length of both joined.
-static LENGTHS: [(usize, usize, &str); 8] = [
-    (1048576, 0, "1048576"),
-    (0, 1048576, "1048576"),
-    (1048575, 1, "1048576"),
-    (524288, 524288, "1048576"),
-    (1048576, 1, "text too long"),
-    (1, 1048576, "text too long"),
-    (524288, 524289, "text too long"),
-    (1048577, 0, "text too long"),
-];
-
-#[test]
-fn a_text_at_the_limit(rt: HostRuntime) -> Result<(), Fail> {
-    let alloc = rt.alloc();
-    let mut env = bound(alloc)?;
-    for case in &LENGTHS {
-        let (left, right, want) = *case;
-        bind_text(alloc, &mut env, "l", "a".repeat(alloc, left)?.as_str())?;
-        bind_text(alloc, &mut env, "r", "a".repeat(alloc, right)?.as_str())?;
-        check_under(&rt, alloc, &env, &[("len(l & r)", want)])?;
-    }
-    Ok(())
-}
-
 /// Texts and the number that each spells.
 static SPELLED: [(&str, &str); 13] = [
     ("7", "7"),
@@ -172,4 +147,27 @@ static TRIED: [(&str, &str); 4] = [
 #[test]
 fn what_is_tried_or_nothing(rt: HostRuntime) -> Result<(), Fail> {
     check(&rt, rt.alloc(), &TRIED)
+}
+
+/// Joins of `h`, `m` and `w`, of 524,288 bytes, 1,048,575 bytes and 1,048,577 bytes.
+static LONG: [(&str, &str); 8] = [
+    ("len((m & \"a\") & \"\")", "1048576"),
+    ("len(\"\" & (m & \"a\"))", "1048576"),
+    ("len(m & \"a\")", "1048576"),
+    ("len(h & h)", "1048576"),
+    ("(m & \"a\") & \"a\"", "text too long"),
+    ("\"a\" & (m & \"a\")", "text too long"),
+    ("h & (h & \"a\")", "text too long"),
+    ("w & \"\"", "text too long"),
+];
+
+#[test]
+fn when_a_text_is_too_long(rt: HostRuntime) -> Result<(), Fail> {
+    let alloc = rt.alloc();
+    let mut env = bound(alloc)?;
+    for (name, length) in [("h", 524288), ("m", 1048575), ("w", 1048577)] {
+        let text = "a".repeat(alloc, length)?;
+        bind_text(alloc, &mut env, name, text.as_str())?;
+    }
+    check_under(&rt, alloc, &env, &LONG)
 }
