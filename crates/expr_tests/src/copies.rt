@@ -1,9 +1,10 @@
 //! Copies of values and of whole programs' parts equal what they were made of.
 
 use crate::asked::{read, value_of};
-use loop_data::{Value, copy_block};
+use loop_data::{CopyIn, copy_block};
 use loop_syntax::Program;
 use loop_values::Env;
+use no_memory::NoMemory;
 use std::alloc::Global;
 use std::test::Fail;
 
@@ -32,19 +33,27 @@ end
 print s
 ";
 
+/// Whether a copy equals what it was made of.
+fn is_same<T: PartialEq + Drop>(copy: Result<T, NoMemory>, whole: &T) -> Result<bool, NoMemory> {
+    let copy = copy?;
+    Ok(copy == *whole)
+}
+
 /// Whether the copies of a program's body equal it.
-fn is_copied(alloc: Global, program: &Program) -> Result<bool, Fail> {
+fn is_copied(alloc: Global, program: &Program) -> Result<bool, NoMemory> {
     let body = program.body();
-    Ok(copy_block(alloc, body.as_slice())? == *body && body.copy(alloc)? == *body)
+    let block = is_same(copy_block(alloc, body.as_slice()), body)?;
+    let list = is_same(body.copy(alloc), body)?;
+    Ok(block && list)
 }
 
 #[test]
 fn every_form_is_copied(rt: HostRuntime) -> Result<(), Fail> {
     let alloc = rt.alloc();
     let program = read(alloc, FORMS)?;
-    assert!(rt; is_copied(alloc, &program)?);
+    assert_eq!(rt; is_copied(alloc, &program), Ok(true));
     for inner in program.head().inner.as_slice() {
-        assert!(rt; inner.range.copy(alloc)? == inner.range);
+        assert_eq!(rt; is_same(inner.range.copy(alloc), &inner.range), Ok(true));
     }
     Ok(())
 }
@@ -82,7 +91,7 @@ fn bodies_that_differ(rt: HostRuntime) -> Result<(), Fail> {
     for (one, other) in &BODIES {
         let program = with_body(alloc, one)?;
         let different = with_body(alloc, other)?;
-        assert!(rt; is_copied(alloc, &program)?, "{one}");
+        assert_eq!(rt; is_copied(alloc, &program), Ok(true), "{one}");
         assert!(rt; program.body() != different.body(), "{one}");
     }
     Ok(())
@@ -95,15 +104,28 @@ static VALUES: [(&str, &str); 3] = [
     ("\"a text of over twenty-three bytes\"", "\"a text\""),
 ];
 
+/// Whether the copy of a thing equals it, and the other thing doesn't.
+fn is_told<T: CopyIn + PartialEq + Drop>(
+    alloc: Global,
+    one: &T,
+    other: &T,
+) -> Result<bool, NoMemory> {
+    Ok(is_same(one.copy_in(alloc), one)? && *one != *other)
+}
+
 #[test]
 fn copies_of_values(rt: HostRuntime) -> Result<(), Fail> {
     let alloc = rt.alloc();
     let env = Env::new(alloc);
     for (one, other) in &VALUES {
-        let value: Value = value_of(alloc, one, &env)?.map_err(|_| "a fault")?;
-        let different = value_of(alloc, other, &env)?.map_err(|_| "a fault")?;
-        assert!(rt; value.copy(alloc)? == value, "{one}");
-        assert!(rt; value != different, "{one}");
+        let value = value_of(alloc, one, &env)?;
+        let different = value_of(alloc, other, &env)?;
+        match (&value, &different) {
+            (Ok(value), Ok(different)) => {
+                assert_eq!(rt; is_told(alloc, value, different), Ok(true), "{one}");
+            }
+            _ => return Err(Fail::from("a fault")),
+        }
     }
     Ok(())
 }
