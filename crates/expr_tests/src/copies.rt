@@ -61,8 +61,8 @@ fn every_form_is_copied(rt: HostRuntime) -> Result<(), Fail> {
 /// Bodies that differ in one thing.
 static BODIES: [(&str, &str); 8] = [
     (
-        "let y = \"a text of over twenty-three bytes\" & \"a\"",
-        "let y = \"a text of over twenty-three bytes\" & \"b\"",
+        "let y = (if not b then (-place, abs(x)) else (1, 2), if true then \"a text of over twenty-three bytes\" & \"a\" else nothing)",
+        "let y = (if not b then (-place, abs(x)) else (1, 2), if true then \"a text of over twenty-three bytes\" & \"b\" else nothing)",
     ),
     ("let (y, z) = (1, 2)", "let (y, z) = (1, 3)"),
     (

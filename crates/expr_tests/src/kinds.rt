@@ -207,7 +207,7 @@ fn kinds_of_other_expressions(rt: HostRuntime) -> Result<(), Fail> {
 }
 
 /// Expressions of which no two have the same kind.
-static DIFFERENT: [&str; 10] = [
+static DIFFERENT: [&str; 11] = [
     "1",
     "true",
     "\"\"",
@@ -218,6 +218,7 @@ static DIFFERENT: [&str; 10] = [
     "(1, 1, 1)",
     "tryint(\"\")",
     "if true then (1, 1) else nothing",
+    "if true then (1, (true, \"\")) else nothing",
 ];
 
 /// Whether two expressions have one kind.
