@@ -28,11 +28,12 @@ fn show(kind: &ValueKind, words: &mut String) -> Result<(), Fail> {
             show(inner.get(), words)?;
         }
         ValueKind::Tuple(parts) => {
-            let mut between = "(";
-            for part in parts.as_slice() {
-                words.push_str(between)?;
+            words.push_str("(")?;
+            for (i, part) in parts.as_slice().iter().enumerate() {
+                if i > 0 {
+                    words.push_str(", ")?;
+                }
                 show(part, words)?;
-                between = ", ";
             }
             words.push_str(")")?;
         }
