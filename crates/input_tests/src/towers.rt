@@ -1,4 +1,4 @@
-use loop_data::{Statement, TowerExpr, Value};
+use loop_data::{Kind, Statement, TowerExpr, Value};
 use loop_syntax::{Program, read_program};
 use loop_values::{Env, InnerRange, Types, ValueKind};
 use std::alloc::Global;
@@ -108,19 +108,28 @@ fn towers_take_what_they_may(rt: HostRuntime) -> Result<(), Fail> {
     Ok(())
 }
 
+/// The kind of a tower.
+fn kind_read(alloc: Global, tower: &str) -> Result<Kind, Fail> {
+    let program = looped(alloc, tower)?;
+    match tower_of(&program) {
+        Some(tower) => Ok(kind_of_tower(alloc, tower)?),
+        None => Err(Fail::from("no tower")),
+    }
+}
+
+/// Whether two towers have one kind.
+fn is_same(alloc: Global, one: &str, other: &str) -> Result<bool, Fail> {
+    let one = kind_read(alloc, one)?;
+    let other = kind_read(alloc, other)?;
+    Ok(is_same_tower(&one, &other))
+}
+
 #[test]
 fn towers_are_told_apart_by_their_kinds(rt: HostRuntime) -> Result<(), Fail> {
     let alloc = rt.alloc();
-    let one = looped(alloc, "group(text(x), sum(x))")?;
-    let same = looped(alloc, "group(\"k\", sum(1))")?;
-    let other = looped(alloc, "group(text(x), prod(x))")?;
-    let (Some(one), Some(same), Some(other)) = (tower_of(&one), tower_of(&same), tower_of(&other))
-    else {
-        return Err(Fail::from("no tower"));
-    };
-    let one = kind_of_tower(alloc, one)?;
-    assert!(rt; is_same_tower(&one, &kind_of_tower(alloc, same)?));
-    assert!(rt; !is_same_tower(&one, &kind_of_tower(alloc, other)?));
+    let tower = "group(text(x), sum(x))";
+    assert!(rt; is_same(alloc, tower, "group(\"k\", sum(1))")?);
+    assert!(rt; !is_same(alloc, tower, "group(text(x), prod(x))")?);
     Ok(())
 }
 

@@ -67,6 +67,19 @@ fn a_pop_takes_the_last_and_a_steal_the_first(rt: HostRuntime) -> Result<(), NoM
 }
 
 #[test]
+fn each_end_that_was_split_off_steals(rt: HostRuntime) -> Result<(), NoMemory> {
+    let (mut owner, mut thief, whole) = deque_of(rt.alloc(), 4)?;
+    assert_eq!(rt; push_leaves(&mut owner, whole), 0);
+    let mut other = split_once(rt.alloc(), &mut thief)?;
+    let mut third = split_once(rt.alloc(), &mut other)?;
+    let first = other.steal().map(|part| part.first());
+    let second = thief.steal().map(|part| part.first());
+    let last = third.steal().map(|part| part.first());
+    assert_eq!(rt; (first, second, last), (Some(1), Some(2), Some(3)));
+    Ok(())
+}
+
+#[test]
 fn misses_count_what_gave_nothing(rt: HostRuntime) -> Result<(), NoMemory> {
     let (mut owner, mut thief, whole) = deque_of(rt.alloc(), 8)?;
     assert_eq!(rt; (owner.misses(), thief.misses()), (0, 0));

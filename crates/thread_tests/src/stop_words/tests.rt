@@ -18,6 +18,23 @@ fn the_word_falls_to_the_least_report(rt: HostRuntime) -> Result<(), Fail> {
 }
 
 #[test]
+fn a_seat_sees_what_another_reported(rt: HostRuntime) -> Result<(), Fail> {
+    let Ok((word, mut one)) = StopWord::new(rt.alloc()) else {
+        panic!(rt; "no memory")
+    };
+    let mut other = word.split(&mut one);
+    let before_seven = word.report(&mut one, 7);
+    let seen = word.seen(&mut other);
+    let before_nine = word.report(&mut other, 9);
+    let before_three = word.report(&mut other, 3);
+    let at_last = word.seen(&mut one);
+    assert!(rt; [before_seven, seen, before_nine, before_three, at_last] == [NONE, 7, 7, 7, 3]);
+    word.join(&mut one, other);
+    assert!(rt; word.close(one) == 3);
+    Ok(())
+}
+
+#[test]
 fn a_word_without_reports_closes_as_none(rt: HostRuntime) -> Result<(), Fail> {
     let Ok((splits, word)) = splits_to_one(rt.alloc()) else {
         panic!(rt; "no memory")
