@@ -32,7 +32,9 @@ fn deque_of(alloc: Global, items: u64) -> Result<(PartOwner, PartThief, Part), N
 }
 
 /// Splits an end that holds more than one right.
-fn split_once(alloc: Global, thief: &mut PartThief) -> Result<PartThief, NoMemory> {
+fn split_once(alloc: Global, thief: &mut PartThief) -> Result<PartThief, NoMemory>
+    ensures { IfOk result (λ end. end.deque ≡ thief.old.deque) }
+{
     if thief.weight() < 2 * RIGHT_WEIGHT {
         return Err(NoMemory);
     }
@@ -76,6 +78,19 @@ fn each_end_that_was_split_off_steals(rt: HostRuntime) -> Result<(), NoMemory> {
     let second = thief.steal().map(|part| part.first());
     let last = third.steal().map(|part| part.first());
     assert_eq!(rt; (first, second, last), (Some(1), Some(2), Some(3)));
+    Ok(())
+}
+
+#[test]
+fn an_owner_pops_with_more_than_half_of_the_weight(rt: HostRuntime) -> Result<(), NoMemory> {
+    let (mut owner, mut thief, whole) = deque_of(rt.alloc(), 8)?;
+    assert_eq!(rt; push_leaves(&mut owner, whole), 0);
+    let other = split_once(rt.alloc(), &mut thief)?;
+    owner.join(other);
+    assert!(rt; WHOLE / 2 < owner.weight() && owner.weight() < WHOLE);
+    let last = owner.pop().map(|part| part.first());
+    let first = thief.steal().map(|part| part.first());
+    assert_eq!(rt; (last, first), (Some(8), Some(1)));
     Ok(())
 }
 
