@@ -104,7 +104,7 @@ pub too_wide : (limit : ℕ) (records rows : List Fields) (header : Fields) → 
 too_wide limit records rows header is text wide = rw (is, text_passes header text, lt-ltb _ _ wide) refl
 
 pub too_many : (limit : ℕ) (records rows : List Fields) (header : Fields) → records ≡ header ∷ rows → AllText header → length header ≤ max_columns
-    → limit < length header → first_file_refusal limit records ≡ Some (refused.TooManyFields 1)
+    → limit < length header → first_file_refusal limit records ≡ Some (refused.TooManyFields 1 limit)
 too_many limit records rows header is text narrow over = rw (is, text_passes header text, le-ltb _ _ narrow, lt-ltb _ _ over) refl
 
 header_fine : (limit : ℕ) (header : Fields) → AllText header → length header ≤ max_columns → length header ≤ limit → header_refusal limit header ≡ None
@@ -116,7 +116,7 @@ pub further_differs : (limit before field : ℕ) (names header : Fields) (record
 further_differs limit before field names header records rows is text differs = rw (is, text_passes header text, differs) refl
 
 pub further_too_many : (limit before : ℕ) (names header : Fields) (records rows : List Fields) → records ≡ header ∷ rows → AllText header
-    → first_difference names header ≡ None → nat_lt limit (before + length names) ≡ true → further_file_refusal limit before names records ≡ Some (refused.TooManyFields 1)
+    → first_difference names header ≡ None → nat_lt limit (before + length names) ≡ true → further_file_refusal limit before names records ≡ Some (refused.TooManyFields 1 limit)
 further_too_many limit before names header records rows is text same over =
     let equal = no_difference 1 names header same in
     rw (is, text_passes header text, same, ← equal, over) refl

@@ -62,7 +62,7 @@ pub next_ragged : (limit before number : ℕ) (header row : Fields) (all : List 
 next_ragged limit before number header row all text ragged = rw (text_passes row text, ne_eqb (length row) (length header) ragged) refl
 
 pub next_even : (limit before : ℕ) (header row : Fields) (all done left : List Fields) → AllText row → length row ≡ length header → Reading limit before (length header) all done (row ∷ left)
-    → row_refusal limit before header all (length done + 2, row) ≡ (if nat_lt limit (before + (length done + 2) * length header) then Some (refused.TooManyFields (length done + 2)) else None)
+    → row_refusal limit before header all (length done + 2, row) ≡ (if nat_lt limit (before + (length done + 2) * length header) then Some (refused.TooManyFields (length done + 2) limit) else None)
 next_even limit before header row all done left text full reading =
     let same : (length row == length header) ≡ true = eq-eqb _ _ full in
     rw (text_passes row text, same, next_total limit before _ all done left header row reading refl full) refl
@@ -80,7 +80,7 @@ next_fine limit before header row all done left text full reading kept =
     next_even limit before header row all done left text full reading ∙ rw kept refl
 
 pub next_over : (limit before : ℕ) (header row : Fields) (all done left : List Fields) → AllText row → length row ≡ length header → Reading limit before (length header) all done (row ∷ left)
-    → nat_lt limit (before + (length done + 2) * length header) ≡ true → row_refusal limit before header all (length done + 2, row) ≡ Some (refused.TooManyFields (length done + 2))
+    → nat_lt limit (before + (length done + 2) * length header) ≡ true → row_refusal limit before header all (length done + 2, row) ≡ Some (refused.TooManyFields (length done + 2) limit)
 next_over limit before header row all done left text full reading over =
     next_even limit before header row all done left text full reading ∙ rw over refl
 
@@ -117,9 +117,9 @@ refused_length limit before width all done left row reading text ragged header w
 
 pub refused_limit : (limit before width : ℕ) (all done left : List Fields) (row : Fields) → Reading limit before width all done (row ∷ left) → AllText row → length row ≡ width
     → nat_lt limit (before + (length done + 2) * width) ≡ true → (header : Fields) → length header ≡ width
-    → slice_get (row_refusals limit before header all) 0 ≡ Some (refused.TooManyFields (length done + 2))
+    → slice_get (row_refusals limit before header all) 0 ≡ Some (refused.TooManyFields (length done + 2) limit)
 refused_limit limit before width all done left row reading text full over header wide =
-    first_found limit before width all done left row (refused.TooManyFields (length done + 2)) reading
+    first_found limit before width all done left row (refused.TooManyFields (length done + 2) limit) reading
     (λ h w. next_over limit before h row all done left text (full ∙ sym w) (rw w reading) (rw w over)) header wide
 
 -- an error that was handed on is the same error

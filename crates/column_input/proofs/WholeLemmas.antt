@@ -68,7 +68,7 @@ clear_row limit before header rows number fields e =
         → nat_lt limit (before + fields_up_to (header ∷ rows) number) ≡ over
         → ◌≡◌ {A = Option TableRefusal} (if not text then Some (refused.NotUtf8 number)
         else if not full then Some (refused.Ragged number (length fields) (length header))
-        else if over then Some (refused.TooManyFields number)
+        else if over then Some (refused.TooManyFields number limit)
         else None) None
         → Clear limit before header rows number fields
     by false full over is_text is_full is_over e = cc e
@@ -129,7 +129,7 @@ header_clear limit header e = by (list_all is_utf8 header) (nat_lt max_columns (
     by : (text wide over : Bool) → list_all is_utf8 header ≡ text → nat_lt max_columns (length header) ≡ wide → nat_lt limit (length header) ≡ over
         → ◌≡◌ {A = Option TableRefusal} (if not text then Some (refused.NotUtf8 1)
         else if wide then Some (refused.TooManyColumns (length header))
-        else if over then Some (refused.TooManyFields 1)
+        else if over then Some (refused.TooManyFields 1 limit)
         else None) None
         → AllText header × (length header ≤ max_columns) × (length header ≤ limit)
     by false wide over is_text is_wide is_over e = cc e
@@ -144,7 +144,7 @@ further_clear limit before names header e = by (list_all is_utf8 header) (first_
     by : (text : Bool) (differs : Option ℕ) (over : Bool) → list_all is_utf8 header ≡ text → first_difference names header ≡ differs
         → nat_lt limit (before + length header) ≡ over
         → ◌≡◌ {A = Option TableRefusal} (if not text then Some (refused.NotUtf8 1)
-        else differs_or differs (if over then Some (refused.TooManyFields 1) else None)) None
+        else differs_or differs (if over then Some (refused.TooManyFields 1 limit) else None)) None
         → AllText header × (names ≡ header) × (before + length header ≤ limit)
     by false differs over is_text same is_over e = cc e
     by true (Some field) over is_text same is_over e = cc e

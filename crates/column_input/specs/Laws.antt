@@ -9,7 +9,7 @@ use Rattle.column_input.specs.Table.{Contents, appended, table_of}
 use Rattle.column_input.specs.Whole.{HoldsFiles, IsWhole}
 use Rattle.column_input.specs.declared.refusal.TableRefusal.{TableRefusal}
 
--- the records of a text, one after another, take it to its end
+-- the records of a text are what is read of it, one after another, until what is left has none, as a text of empty lines has
 abbrev pub RecordsTakeTheWholeText : Type 0
 RecordsTakeTheWholeText = (bytes : List ℕ) → AreRecords default_config st.StartRecord (strip_bom bytes) (records_of bytes)
 

@@ -30,7 +30,7 @@ abbrev pub header_refusal : ℕ → Fields → Option TableRefusal
 header_refusal limit header =
     if not (list_all is_utf8 header) then Some (refused.NotUtf8 1)
     else if nat_lt max_columns (length header) then Some (refused.TooManyColumns (length header))
-    else if nat_lt limit (length header) then Some (refused.TooManyFields 1)
+    else if nat_lt limit (length header) then Some (refused.TooManyFields 1 limit)
     else None
 
 -- a header that differs is refused, another one only where there are too many fields
@@ -43,7 +43,7 @@ abbrev pub further_header_refusal : ℕ → ℕ → Fields → Fields → Option
 further_header_refusal limit before names header =
     if not (list_all is_utf8 header) then Some (refused.NotUtf8 1)
     else differs_or (first_difference names header)
-    (if nat_lt limit (before + length header) then Some (refused.TooManyFields 1) else None)
+    (if nat_lt limit (before + length header) then Some (refused.TooManyFields 1 limit) else None)
 
 -- what is wrong with a record after its file's header, by its number, from 2, and its fields: the first that applies. The files
 -- before have `before` fields
@@ -51,7 +51,7 @@ abbrev pub row_refusal : ℕ → ℕ → Fields → List Fields → ℕ × Field
 row_refusal limit before header rows (number, fields) =
     if not (list_all is_utf8 fields) then Some (refused.NotUtf8 number)
     else if not (length fields == length header) then Some (refused.Ragged number (length fields) (length header))
-    else if nat_lt limit (before + fields_up_to (header ∷ rows) number) then Some (refused.TooManyFields number)
+    else if nat_lt limit (before + fields_up_to (header ∷ rows) number) then Some (refused.TooManyFields number limit)
     else None
 
 -- the refusals of the rows under a header, row by row

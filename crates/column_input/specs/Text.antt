@@ -12,6 +12,6 @@ refusal_text (refused.NotUtf8 number) = codes "record " ++ decimal number ++ cod
 refusal_text (refused.Ragged number fields header) =
     codes "record " ++ decimal number ++ codes ": " ++ decimal fields ++ codes " fields, header has " ++ decimal header
 refusal_text (refused.TooManyColumns columns) = decimal columns ++ codes " columns, at most 1024"
-refusal_text (refused.TooManyFields number) = codes "over 16777216 fields"
+refusal_text (refused.TooManyFields number limit) = codes "over " ++ decimal limit ++ codes " fields"
 refusal_text (refused.HeaderDiffers field) = codes "header differs at field " ++ decimal field
 refusal_text refused.NoMemory = codes "out of memory"

@@ -103,7 +103,10 @@ impl Chunk {
                 });
             }
             if limit.is_over(number * width as u64) {
-                return Err(TableRefusal::TooManyFields { number });
+                return Err(TableRefusal::TooManyFields {
+                    number,
+                    limit: limit.most,
+                });
             }
             chunk.push(&row)?;
         }

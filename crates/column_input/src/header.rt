@@ -35,7 +35,7 @@ pub(crate) fn read_header(
         return Err(TableRefusal::TooManyColumns { columns });
     }
     if columns > limit {
-        return Err(TableRefusal::TooManyFields { number: 1 });
+        return Err(TableRefusal::TooManyFields { number: 1, limit });
     }
     Ok(header)
 }
@@ -60,7 +60,10 @@ pub(crate) fn pass_header(
         return Err(TableRefusal::HeaderDiffers { field });
     }
     if limit.is_over(header.len() as u64) {
-        return Err(TableRefusal::TooManyFields { number: 1 });
+        return Err(TableRefusal::TooManyFields {
+            number: 1,
+            limit: limit.most,
+        });
     }
     Ok(())
 }

@@ -2,7 +2,7 @@
 
 ghost use Rattle.column_input.specs.Laws.{DifferNowhereWhereEqual, OneMoreFileIsAppended, RecordsTakeTheWholeText, TablesAreWhole, TablesHoldTheirFiles, TheFirstRefusalStays};
 
-/// The records of a text are all that `csv` reads: one after another they take the text to its end.
+/// The records of a text are all that `csv` reads of it, one after another, until what is left of the text has none.
 pub fn records_take_the_whole_text()
     ensures { RecordsTakeTheWholeText }
 {}

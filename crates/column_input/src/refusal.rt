@@ -38,10 +38,13 @@ pub enum TableRefusal {
         /// How many fields it has.
         columns: u64,
     },
-    /// The records up to and with this one, those of the files before among them, have over 16,777,216 fields together.
+    /// The records up to and with this one, those of the files before among them, have more fields together than the limit:
+    /// 16,777,216, or the one that the call was given.
     TooManyFields {
         /// The record.
         number: u64,
+        /// The limit.
+        limit: u64,
     },
     /// Memory ran out.
     NoMemory,
@@ -67,7 +70,7 @@ impl fmt::Display for TableRefusal {
             TableRefusal::TooManyColumns { columns } => {
                 write!(f, "{columns} columns, at most 1024")
             }
-            TableRefusal::TooManyFields { number: _ } => f.write_str("over 16777216 fields"),
+            TableRefusal::TooManyFields { number: _, limit } => write!(f, "over {limit} fields"),
             TableRefusal::NoMemory => f.write_str("out of memory"),
         }
     }

@@ -153,7 +153,10 @@ static LIMITED: [(&[u8], u64, Option<TableRefusal>); 6] = [
     (
         b"a,b\n3,4\n5,6\n",
         8,
-        Some(TableRefusal::TooManyFields { number: 3 }),
+        Some(TableRefusal::TooManyFields {
+            number: 3,
+            limit: 8,
+        }),
     ),
     (
         b"a,b\n3,4\n5,\xFF\n",
@@ -161,7 +164,14 @@ static LIMITED: [(&[u8], u64, Option<TableRefusal>); 6] = [
         Some(TableRefusal::NotUtf8 { number: 3 }),
     ),
     (b"x,b\n", 4, Some(TableRefusal::HeaderDiffers { field: 1 })),
-    (b"a,b\n", 4, Some(TableRefusal::TooManyFields { number: 1 })),
+    (
+        b"a,b\n",
+        4,
+        Some(TableRefusal::TooManyFields {
+            number: 1,
+            limit: 4,
+        }),
+    ),
     (
         b"a,b\n1,2,3\n",
         6,
@@ -186,14 +196,27 @@ fn counts_the_fields_of_all_files(rt: HostRuntime) {
         }
         if want.is_none() && table.files() > 0 {
             let got = table.append_within(rt.alloc(), b"a,b", 8).err();
-            assert_eq!(rt; got, Some(TableRefusal::TooManyFields { number: 1 }));
+            assert_eq!(rt;
+                got,
+                Some(TableRefusal::TooManyFields {
+                    number: 1,
+                    limit: 8
+                })
+            );
         }
     }
 }
 
 /// A first file, how many fields it may have, and its refusal.
 static FIRST_LIMITED: [(&[u8], u64, TableRefusal); 3] = [
-    (b"a,b\n", 1, TableRefusal::TooManyFields { number: 1 }),
+    (
+        b"a,b\n",
+        1,
+        TableRefusal::TooManyFields {
+            number: 1,
+            limit: 1,
+        },
+    ),
     (b"a,b\n\xFF,1\n", 2, TableRefusal::NotUtf8 { number: 2 }),
     (
         b"a,b\n1,2,3\n",
@@ -255,13 +278,19 @@ fn holds_16777216_fields_and_no_more(rt: HostRuntime) -> Result<(), Fail> {
     assert_eq!(rt; table.rows(), 16383);
     if table.files() > 0 {
         let got = table.append(alloc, one.as_slice()).err();
-        assert_eq!(rt; got, Some(TableRefusal::TooManyFields { number: 1 }));
+        assert_eq!(rt;
+            got,
+            Some(TableRefusal::TooManyFields {
+                number: 1,
+                limit: 16777216
+            })
+        );
     }
     Ok(())
 }
 
 /// A refusal and its text.
-static TEXTS: [(TableRefusal, &str); 7] = [
+static TEXTS: [(TableRefusal, &str); 8] = [
     (TableRefusal::NoHeader, "no header"),
     (TableRefusal::NotUtf8 { number: 2 }, "record 2: not UTF-8"),
     (
@@ -281,8 +310,18 @@ static TEXTS: [(TableRefusal, &str); 7] = [
         "1025 columns, at most 1024",
     ),
     (
-        TableRefusal::TooManyFields { number: 9 },
+        TableRefusal::TooManyFields {
+            number: 9,
+            limit: 16777216,
+        },
         "over 16777216 fields",
+    ),
+    (
+        TableRefusal::TooManyFields {
+            number: 9,
+            limit: 8,
+        },
+        "over 8 fields",
     ),
     (TableRefusal::NoMemory, "out of memory"),
 ];

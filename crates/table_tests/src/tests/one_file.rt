@@ -150,7 +150,10 @@ fn takes_as_many_fields_as_the_limit(rt: HostRuntime) -> Result<(), Fail> {
         None
     );
     let over = lines(rt.alloc(), 5, 256)?;
-    let refusal = TableRefusal::TooManyFields { number: 5 };
+    let refusal = TableRefusal::TooManyFields {
+        number: 5,
+        limit: 1024,
+    };
     assert_eq!(rt;
         Table::read_within(rt.alloc(), over.as_slice(), 1024).err(),
         Some(refusal)
