@@ -9,6 +9,7 @@ use Rattle.std.specs.Borrow.{Bor}
 use Rattle.loop_tokens.specs.declared.token.Token.TheVariants as tok
 use Rattle.loop_tokens.specs.declared.sign.Sign.{Sign}
 use Rattle.loop_tokens.specs.declared.sign.Sign.TheVariants as sg
+use Rattle.loop_exprs.specs.declared.level.Level.{Level}
 use Rattle.loop_exprs.specs.declared.level.Level.TheVariants as level
 use Rattle.loop_exprs.specs.Operations.{positive_value, negative_value}
 use Rattle.loop_exprs.specs.Grammar.{NotFirst}
@@ -16,13 +17,16 @@ use Rattle.loop_tokens.specs.declared.token.Token.{Token}
 use Rattle.loop_data.specs.declared.expr.Expr.{Expr}
 use Rattle.loop_exprs.specs.declared.read.ReadError.{ReadError}
 use Rattle.loop_exprs.specs.declared.read.ReadError.TheVariants.{NoMemory, NotSpelled}
-use Rattle.loop_exprs.specs.Reading.{Gives, Read, Reads, begins_atom}
+use Rattle.loop_exprs.specs.Reading.{Gives, GivesFirst, Read, Reads, begins_atom}
 
 abbrev pub seen : {A : Type 0} → A × Bool × Bor (List Token) → A × Bool × List Token
 seen p = (p.0, p.1, p.2.now)
 
 abbrev pub seen_parts : Vec Expr Global × Bool × Bor (List Token) → List Expr × Bool × List Token
 seen_parts p = (p.0.items, p.1, p.2.now)
+
+abbrev pub seen_first : Level × Expr × Bool × Bor (List Token) → Level × Expr × Bool × List Token
+seen_first p = (p.0, p.1, p.2, p.3.now)
 
 passes_at : {A B Y Z : Type 0} (P : Read A → Type 0) (Q : Read B → Type 0) (f : Y → A × Bool × List Token) (g : Z → B × Bool × List Token) (e : ReadError) →
     (P None → Q None) → Gives P f (Err e) → Gives Q g (Err e)
@@ -40,6 +44,25 @@ pub hands_on : {A Y : Type 0} (P Q : Read A → Type 0) (f : Y → A × Bool × 
 hands_on P Q f (Ok y) step h = step _ h
 hands_on P Q f (Err NoMemory) step h = tt
 hands_on P Q f (Err NotSpelled) step h = step _ h
+
+fails_first_at : {A Y Z : Type 0} (P : Read A → Type 0) (l : Level) (ts : List Token) (f : Y → A × Bool × List Token) (g : Z → Level × Expr × Bool × List Token) (e : ReadError) →
+    (P None → Reads l ts None) → Gives P f (Err e) → GivesFirst l ts g (Err e)
+fails_first_at P l ts f g NoMemory step h = tt
+fails_first_at P l ts f g NotSpelled step h = step h
+
+-- what a call failed with is what stands first
+pub fails_first : {A Y Z : Type 0} (P : Read A → Type 0) (l : Level) (ts : List Token) (f : Y → A × Bool × List Token) (g : Z → Level × Expr × Bool × List Token) (e : ReadError)
+    (r : Result Z ReadError) → (P None → Reads l ts None) → Gives P f (Err e) → r ≡ Err e → GivesFirst l ts g r
+fails_first P l ts f g e r step h same = subst (GivesFirst l ts g) (sym same) (fails_first_at P l ts f g e step h)
+
+first_fails_at : {Y Z : Type 0} (l : Level) (ts : List Token) (f : Y → Level × Expr × Bool × List Token) (g : Z → Expr × Bool × List Token) (e : ReadError) → GivesFirst l ts f (Err e) → Gives (Reads l ts) g (Err e)
+first_fails_at l ts f g NoMemory h = tt
+first_fails_at l ts f g NotSpelled h = h
+
+-- where nothing stands first, nothing is read
+pub first_fails : {Y Z : Type 0} (l : Level) (ts : List Token) (f : Y → Level × Expr × Bool × List Token) (g : Z → Expr × Bool × List Token) (e : ReadError) (r : Result Z ReadError) →
+    GivesFirst l ts f (Err e) → r ≡ Err e → Gives (Reads l ts) g r
+first_fails l ts f g e r h same = subst (Gives (Reads l ts) g) (sym same) (first_fails_at l ts f g e h)
 
 -- ---- numbers are in their type's range
 

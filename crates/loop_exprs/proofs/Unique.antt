@@ -1,6 +1,6 @@
 -- The reader gives what is spelled; so tokens spell one expression at most.
-use Rattle.std.proofs.Common.{◌≡◌, Bool, true, false, ◌||◌, List, [], ◌∷◌, ◌++◌, Some, refl, ap, sym, ◌∙◌, subst, arith, append_assoc, Result, Ok, Err, IfOk}
-use Rattle.std.specs.Borrow.{Bor}
+use Rattle.std.specs.Prelude.{IsTrue, ◌↔◌}
+use Rattle.std.proofs.Common.{◌≡◌, Bool, true, false, ◌||◌, List, [], ◌∷◌, ◌++◌, Some, refl, ap, sym, ◌∙◌, subst, arith, append_assoc, Result, Err}
 use Rattle.loop_tokens.specs.declared.token.Token.{Token}
 use Rattle.loop_tokens.specs.declared.token.Token.TheVariants as tok
 use Rattle.loop_tokens.specs.declared.keyword.Keyword.TheVariants as kw
@@ -16,7 +16,6 @@ use Rattle.loop_exprs.specs.Operations.{tighter, groups_left}
 use Rattle.loop_exprs.specs.Grammar.{Spells, SpellsParts, NotFirst, IsOperation}
 use Rattle.loop_exprs.specs.Reading.{Outcome, Gives, called, paired, beside, Reads, GoesOn, ReadsParts, ReadsAll}
 use Rattle.loop_exprs.specs.Claims.{MayEnd, Front, GaveFront, GaveEachFront, OneReading}
-use Rattle.loop_exprs.proofs.Steps.{seen}
 use Rattle.loop_exprs.proofs.Sound.{sound, or_assoc}
 use Rattle.loop_exprs.proofs.Follow.{Stops, behind, Starts, starts, behind_rank, Stops-mono, Stops-operator, Stops-separator, Stops-empty}
 use Rattle.loop_exprs.proofs.Complete.{Onward, exact, from, left_onward, onward_left, behind_left, closed_tuple, carry, word_no_constant, extreme_no_constant}
@@ -124,14 +123,27 @@ one_reading ts rest also x y wide too f g =
     let same = front_exact g (front_read f) in
     (carry (λ z w us. x ≡ z) same refl, carry (λ z w us. wide ≡ w) same refl, carry (λ z w us. rest ≡ us) same refl)
 
-gave_at : {Y : Type 0} (view : Y → Expr × Bool × List Token) (r : Result Y ReadError) (ts : List Token) → Gives (Reads level.Expr ts) view r → (x : Expr) (wide : Bool) (rest : List Token) → Front ts x wide rest → GaveFront view r x wide rest
-gave_at view (Ok y) ts d x wide rest f = let same = front_exact f d in cc
-gave_at view (Err NoMemory) ts d x wide rest f = tt
-gave_at view (Err NotSpelled) ts d x wide rest f = let same = front_exact f d in cc
+pub front_given : {ts rest us : List Token} {x y : Expr} {wide u : Bool} → Front ts x wide rest → Reads level.Expr ts (Some (y, u, us)) → ◌≡◌ {A = Expr × Bool × List Token} (y, u, us) (x, wide, rest)
+front_given f d = let same = front_exact f d in cc
 
-pub gave_each : {Y : Type 0} (view : Y → Expr × Bool × List Token) (r : Result Y ReadError) (ts : List Token) → Gives (Reads level.Expr ts) view r → GaveEachFront view r ts
-gave_each view r ts d x wide rest f = gave_at view r ts d x wide rest f
+-- where an operation stands behind what was read, there is no front
+pub no_front : {ts rest us : List Token} {x y : Expr} {wide u : Bool} → Front ts x wide rest → Reads level.Expr ts (Some (y, u, us)) → (MayEnd us → ⊥) → ⊥
+no_front {rest = rest} {us = us} f d none = none (carry (λ z w vs. MayEnd vs) (sym (front_exact f d)) f.longest)
 
-pub spelled : (r : Result (Expr × Bool × Bor (List Token)) ReadError) (ts : List Token) → Gives (Reads level.Expr ts) seen r → IfOk r (λ y. Spells level.Expr y.0 y.1 ts y.2.now)
-spelled (Ok y) ts d = sound d
-spelled (Err error) ts d = tt
+-- a test that is false
+pub not_ended : (b : Bool) (ts : List Token) → IsTrue b ↔ MayEnd ts → b ≡ false → MayEnd ts → ⊥
+not_ended true ts h same ends = cc
+not_ended false ts h same ends = let there : false ≡ true = h.1 ends in cc
+
+gave_err_at : {Y Z : Type 0} (f : Y → Expr × Bool × List Token) (g : Z → Expr × Bool × List Token) (error : ReadError) (ts : List Token) → Gives (Reads level.Expr ts) f (Err error) →
+    (x : Expr) (wide : Bool) (rest : List Token) → Front ts x wide rest → GaveFront g (Err error) x wide rest
+gave_err_at f g NoMemory ts d x wide rest h = tt
+gave_err_at f g NotSpelled ts d x wide rest h = let same = front_exact h d in cc
+
+-- what the reader failed with is passed on
+pub gave_err : {Y Z : Type 0} (f : Y → Expr × Bool × List Token) (g : Z → Expr × Bool × List Token) (error : ReadError) (r : Result Z ReadError) (ts : List Token) →
+    Gives (Reads level.Expr ts) f (Err error) → r ≡ Err error → GaveEachFront g r ts
+gave_err {Z = Z} f g error r ts d same x wide rest h = subst (λ (q : Result Z ReadError). GaveFront g q x wide rest) (sym same) (gave_err_at f g error ts d x wide rest h)
+
+pub spelled : {ts us : List Token} {y : Expr} {u : Bool} → Reads level.Expr ts (Some (y, u, us)) → Spells level.Expr y u ts us
+spelled d = sound d

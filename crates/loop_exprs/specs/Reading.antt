@@ -1,6 +1,6 @@
 -- What the reader of expressions does, step by step. Apart from the grammar, and tied to it in proofs/.
 -- Source: this project.
-use Rattle.std.specs.Prelude.{◌≡◌, Bool, true, false, ◌||◌, ℕ, nat_le, List, [], ◌∷◌, ◌++◌, length, Option, Some, None, Result, Ok, Err, if◌then◌else◌}
+use Rattle.std.specs.Prelude.{◌≡◌, Bool, true, false, ◌||◌, ℕ, nat_le, ◌≤◌, List, [], ◌∷◌, ◌++◌, length, Option, Some, None, Result, Ok, Err, if◌then◌else◌}
 use Rattle.loop_tokens.specs.declared.token.Token.{Token}
 use Rattle.loop_tokens.specs.declared.token.Token.TheVariants as tok
 use Rattle.loop_tokens.specs.declared.keyword.Keyword.{Keyword}
@@ -43,6 +43,33 @@ rank level.Add = 3
 rank level.Multiply = 2
 rank level.Negate = 1
 rank level.Atom = 0
+
+-- the next level that holds together less tightly
+abbrev pub looser : Level → Level
+looser level.Atom = level.Negate
+looser level.Negate = level.Multiply
+looser level.Multiply = level.Add
+looser level.Add = level.Join
+looser level.Join = level.Compare
+looser level.Compare = level.Not
+looser level.Not = level.And
+looser level.And = level.Or
+looser level.Or = level.Expr
+looser level.Expr = level.Expr
+
+-- the token comes first that begins a form of the level, and rest behind it
+abbrev pub Opens : Level → List Token → List Token → Type 0
+Opens level.Expr ts rest = ts ≡ tok.Keyword kw.If ∷ rest
+Opens level.Not ts rest = ts ≡ tok.Keyword kw.Not ∷ rest
+Opens level.Negate ts rest = ts ≡ tok.Sign sg.Minus ∷ rest
+Opens _ ts rest = ⊥
+
+-- no form of the level begins there
+abbrev pub NotOpened : Level → List Token → Type 0
+NotOpened level.Expr ts = NotFirst (tok.Keyword kw.If) ts
+NotOpened level.Not ts = NotFirst (tok.Keyword kw.Not) ts
+NotOpened level.Negate ts = NotFirst (tok.Sign sg.Minus) ts
+NotOpened _ ts = Unit {0}
 
 -- an atom may begin with the token
 abbrev pub begins_atom : Token → Bool
@@ -156,3 +183,13 @@ mutual
 -- What follows `then`, whatever the tokens of the test.
 abbrev pub GivesBranches : {Y : Type 0} → Expr → Bool → List Token → (Y → Expr × Bool × List Token) → Result Y ReadError → Type 0
 GivesBranches c u ts view r = (before : List Token) → Reads level.Expr before (Some (c, u, tok.Keyword kw.Then ∷ ts)) → Gives (Reads level.Expr (tok.Keyword kw.If ∷ before)) view r
+
+-- What stands behind an expression that was read at the next tighter level, whatever its tokens: what is read at the level.
+abbrev pub GivesOnward : {Y : Type 0} → Level → Expr → Bool → List Token → (Y → Expr × Bool × List Token) → Result Y ReadError → Type 0
+GivesOnward l a u ts view r = (before : List Token) → Reads (tighter l) before (Some (a, u, ts)) → Gives (Reads l before) view r
+
+-- What stands first: its level, which is no looser than the one that is asked for, and what is read at that level.
+abbrev pub GivesFirst : {Y : Type 0} → Level → List Token → (Y → Level × Expr × Bool × List Token) → Result Y ReadError → Type 0
+GivesFirst l ts view (Ok y) = (rank (view y).0 ≤ rank l) × Reads (view y).0 ts (Some ((view y).1, (view y).2, (view y).3))
+GivesFirst l ts view (Err NotSpelled) = Reads l ts None
+GivesFirst l ts view (Err NoMemory) = Unit {0}

@@ -1,12 +1,13 @@
 //! What comes first among tokens.
 
-ghost use Rattle.std.specs.Prelude.{◌≡◌, ◌≢◌, ◌∷◌, [], MatchOption, MatchBool};
+ghost use Rattle.std.specs.Prelude.{◌≡◌, ◌≢◌, ◌≤◌, ◌↔◌, ◌∷◌, [], IsTrue, MatchOption, MatchBool};
 ghost use Rattle.loop_tokens.specs.declared.token.Token.TheVariants as t;
 ghost use Rattle.loop_exprs.specs.Grammar.{NotFirst, NoNumberFirst};
-ghost use Rattle.loop_exprs.specs.Reading.{Ends, Begins};
+ghost use Rattle.loop_exprs.specs.Reading.{Ends, Begins, Opens, NotOpened, rank};
+ghost use Rattle.loop_exprs.specs.Claims.{MayEnd};
 
 use crate::level::Level;
-use crate::operations::{level_of, operation_of};
+use crate::operations::{level_of, operation_of, rank};
 use loop_data::Op;
 use loop_tokens::{Keyword, Piece, Sign, Token};
 
@@ -72,6 +73,49 @@ pub(crate) fn operator<'t, 'a>(
         Some((op, rest))
     } else {
         None
+    }
+}
+
+/// The tokens behind the one that begins a form of the level, if it comes first.
+fn opening<'t, 'a>(level: Level, tokens: &'t [Token<'a>]) -> Option<&'t [Token<'a>]>
+    ensures { MatchOption result (NotOpened level tokens.now) (λ rest. Opens level tokens.now rest.now) }
+{
+    match level {
+        Level::Expr => eat_word(Keyword::If, tokens),
+        Level::Not => eat_word(Keyword::Not, tokens),
+        Level::Negate => eat(Sign::Minus, tokens),
+        Level::Or
+        | Level::And
+        | Level::Compare
+        | Level::Join
+        | Level::Add
+        | Level::Multiply
+        | Level::Atom => None,
+    }
+}
+
+/// The same, where an expression of another level may begin with that form.
+pub(crate) fn opened<'t, 'a>(
+    form: Level,
+    level: Level,
+    tokens: &'t [Token<'a>],
+) -> Option<&'t [Token<'a>]>
+    ensures { MatchOption result (rank form ≤ rank level → NotOpened form tokens.now) (λ rest. (rank form ≤ rank level) × Opens form tokens.now rest.now) }
+{
+    if rank(form) <= rank(level) {
+        opening(form, tokens)
+    } else {
+        None
+    }
+}
+
+/// Whether no operation comes first, so that an expression may end there.
+pub(crate) fn may_end(tokens: &[Token<'_>]) -> bool
+    ensures { IsTrue result ↔ MayEnd tokens.now }
+{
+    match tokens.first() {
+        None => true,
+        Some(token) => operation_of(token).is_none(),
     }
 }
 

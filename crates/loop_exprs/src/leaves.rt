@@ -2,12 +2,13 @@
 
 ghost use Rattle.std.specs.Prelude.{◌≡◌, Some, None, IfOk};
 ghost use Rattle.loop_tokens.specs.Literals.{number_of, text_of};
-ghost use Rattle.loop_exprs.specs.Operations.{is_wide, positive_value, is_wide_negative, negative_value};
+ghost use Rattle.loop_exprs.specs.Operations.{constant_of, is_wide, positive_value, is_wide_negative, negative_value};
 ghost use Rattle.loop_exprs.specs.Reading.{closed, applied, called, paired};
 
-use crate::operations::{extreme_of, word_of};
+use crate::operations::{constant_of, extreme_of, word_of};
 use loop_data::{Boxed, Expr, Many, Op, TextValue, Value, Word};
 use loop_tokens::{Keyword, Piece, number_of, text_of};
+use no_memory::NoMemory;
 use std::alloc::Global;
 
 /// A number without `-`, and whether it is too wide.
@@ -38,78 +39,106 @@ pub(crate) fn negative_value(digits: &Piece<'_>) -> (i64, bool)
     }
 }
 
-pub(crate) fn text(alloc: Global, raw: &Piece<'_>) -> Result<Expr, no_memory::NoMemory>
+/// A literal that is a number.
+#[inline(never)]
+pub(crate) fn int(alloc: Global, n: i64) -> Result<Boxed<Expr>, NoMemory>
+    ensures { IfOk result (λ x. x ≡ Expr.Lit (Value.Int n)) }
+{
+    Boxed::new(alloc, Expr::Lit(Value::Int(n)))
+}
+
+#[inline(never)]
+pub(crate) fn text(alloc: Global, raw: &Piece<'_>) -> Result<Boxed<Expr>, NoMemory>
     ensures { IfOk result (λ x. x ≡ Expr.Lit (Value.Text (text_of raw.now))) }
 {
     let text = text_of(alloc, raw.as_str())?;
-    Ok(Expr::Lit(Value::Text(TextValue::new(alloc, text.as_str())?)))
+    let text = TextValue::new(alloc, text.as_str())?;
+    Boxed::new(alloc, Expr::Lit(Value::Text(text)))
 }
 
-pub(crate) fn name(alloc: Global, piece: &Piece<'_>) -> Result<Expr, no_memory::NoMemory>
+#[inline(never)]
+pub(crate) fn name(alloc: Global, piece: &Piece<'_>) -> Result<Boxed<Expr>, NoMemory>
     ensures { IfOk result (λ x. x ≡ Expr.Name piece.now) }
 {
-    Ok(Expr::Name(TextValue::new(alloc, piece.as_str())?))
+    let name = TextValue::new(alloc, piece.as_str())?;
+    Boxed::new(alloc, Expr::Name(name))
 }
 
+/// The expression that a word is by itself, if it is one.
+#[inline(never)]
+pub(crate) fn constant(alloc: Global, word: Keyword) -> Result<Option<Boxed<Expr>>, NoMemory>
+    ensures { IfOk result (λ o. o ≡ constant_of word) }
+{
+    match constant_of(word) {
+        Some(constant) => Ok(Some(Boxed::new(alloc, constant)?)),
+        None => Ok(None),
+    }
+}
+
+#[inline(never)]
 pub(crate) fn two(
     alloc: Global,
     op: Op,
-    left: Expr,
-    right: Expr,
-) -> Result<Expr, no_memory::NoMemory>
+    left: Boxed<Expr>,
+    right: Boxed<Expr>,
+) -> Result<Boxed<Expr>, NoMemory>
     ensures { IfOk result (λ x. x ≡ Expr.Two op left right) }
 {
-    let left = Boxed::new(alloc, left)?;
-    let right = Boxed::new(alloc, right)?;
-    Ok(Expr::Two { op, left, right })
+    Boxed::new(alloc, Expr::Two { op, left, right })
 }
 
-pub(crate) fn not(alloc: Global, inner: Expr) -> Result<Expr, no_memory::NoMemory>
+#[inline(never)]
+pub(crate) fn not(alloc: Global, inner: Boxed<Expr>) -> Result<Boxed<Expr>, NoMemory>
     ensures { IfOk result (λ x. x ≡ Expr.Not inner) }
 {
-    Ok(Expr::Not(Boxed::new(alloc, inner)?))
+    Boxed::new(alloc, Expr::Not(inner))
 }
 
-pub(crate) fn negate(alloc: Global, inner: Expr) -> Result<Expr, no_memory::NoMemory>
+#[inline(never)]
+pub(crate) fn negate(alloc: Global, inner: Boxed<Expr>) -> Result<Boxed<Expr>, NoMemory>
     ensures { IfOk result (λ x. x ≡ Expr.Neg inner) }
 {
-    Ok(Expr::Neg(Boxed::new(alloc, inner)?))
+    Boxed::new(alloc, Expr::Neg(inner))
 }
 
+#[inline(never)]
 pub(crate) fn chosen(
     alloc: Global,
-    test: Expr,
-    yes: Expr,
-    no: Expr,
-) -> Result<Expr, no_memory::NoMemory>
-    ensures { IfOk result (λ x. x ≡ Expr.If test yes (Some no)) }
+    test: Boxed<Expr>,
+    yes: Boxed<Expr>,
+    no: Option<Boxed<Expr>>,
+) -> Result<Boxed<Expr>, NoMemory>
+    ensures { IfOk result (λ x. x ≡ Expr.If test yes no) }
 {
-    let test = Boxed::new(alloc, test)?;
-    let yes = Boxed::new(alloc, yes)?;
-    let no = Some(Boxed::new(alloc, no)?);
-    Ok(Expr::If { test, yes, no })
+    Boxed::new(alloc, Expr::If { test, yes, no })
 }
 
-pub(crate) fn chosen_some(alloc: Global, test: Expr, yes: Expr) -> Result<Expr, no_memory::NoMemory>
-    ensures { IfOk result (λ x. x ≡ Expr.If test yes None) }
+/// The parts of a tuple, each taken out of its box.
+fn parts(alloc: Global, found: Vec<Boxed<Expr>>) -> Result<Many<Expr>, NoMemory>
+    ensures { IfOk result (λ xs. xs ≡ found.items) }
 {
-    let test = Boxed::new(alloc, test)?;
-    let yes = Boxed::new(alloc, yes)?;
-    Ok(Expr::If {
-        test,
-        yes,
-        no: None,
-    })
+    let mut parts = Many::new(alloc);
+    for part in found {
+        parts.push(alloc, part.into_inner())?;
+    }
+    Ok(parts)
 }
 
 /// What the parts between parentheses make: one stands for itself, two to four are a tuple.
-pub(crate) fn closed(mut found: Vec<Expr>) -> Option<Expr>
-    ensures { result ≡ closed found.items }
+#[inline(never)]
+pub(crate) fn closed(
+    alloc: Global,
+    mut found: Vec<Boxed<Expr>>,
+) -> Result<Option<Boxed<Expr>>, NoMemory>
+    ensures { IfOk result (λ o. o ≡ closed found.items) }
 {
     match found.len() {
-        1 => found.pop(),
-        2..=4 => Some(Expr::Tuple(Many::from_vec(found))),
-        _ => None,
+        1 => Ok(found.pop()),
+        2..=4 => {
+            let parts = parts(alloc, found)?;
+            Ok(Some(Boxed::new(alloc, Expr::Tuple(parts))?))
+        }
+        _ => Ok(None),
     }
 }
 
@@ -117,15 +146,12 @@ pub(crate) fn closed(mut found: Vec<Expr>) -> Option<Expr>
 fn called(
     alloc: Global,
     word: Option<Word>,
-    part: Option<Expr>,
-) -> Result<Option<Expr>, no_memory::NoMemory>
+    part: Option<Boxed<Expr>>,
+) -> Result<Option<Boxed<Expr>>, NoMemory>
     ensures { IfOk result (λ o. o ≡ called word part) }
 {
     match (word, part) {
-        (Some(word), Some(part)) => {
-            let part = Boxed::new(alloc, part)?;
-            Ok(Some(Expr::Call { word, part }))
-        }
+        (Some(word), Some(part)) => Ok(Some(Boxed::new(alloc, Expr::Call { word, part })?)),
         _ => Ok(None),
     }
 }
@@ -134,9 +160,9 @@ fn called(
 fn paired(
     alloc: Global,
     op: Option<Op>,
-    left: Option<Expr>,
-    right: Option<Expr>,
-) -> Result<Option<Expr>, no_memory::NoMemory>
+    left: Option<Boxed<Expr>>,
+    right: Option<Boxed<Expr>>,
+) -> Result<Option<Boxed<Expr>>, NoMemory>
     ensures { IfOk result (λ o. o ≡ paired op left right) }
 {
     let Some(op) = op else {
@@ -152,11 +178,12 @@ fn paired(
 }
 
 /// What a word makes of the parts between its parentheses.
+#[inline(never)]
 pub(crate) fn applied(
     alloc: Global,
     word: Keyword,
-    mut found: Vec<Expr>,
-) -> Result<Option<Expr>, no_memory::NoMemory>
+    mut found: Vec<Boxed<Expr>>,
+) -> Result<Option<Boxed<Expr>>, NoMemory>
     ensures { IfOk result (λ o. o ≡ applied word found.items) }
 {
     match found.len() {

@@ -1,7 +1,8 @@
 //! Which tokens stand for which operations, and how tightly these hold together.
 
-ghost use Rattle.std.specs.Prelude.{◌≡◌};
+ghost use Rattle.std.specs.Prelude.{◌≡◌, ◌<◌, ◌≤◌, MatchBool};
 ghost use Rattle.loop_exprs.specs.Operations.{tighter, operation_of, level_of, sign_operation, keyword_operation, word_of, extreme_of, constant_of};
+ghost use Rattle.loop_exprs.specs.Reading.{looser, rank};
 
 use crate::level::Level;
 use loop_data::{Expr, Op, Value, Word};
@@ -21,6 +22,47 @@ pub(crate) fn tighter(level: Level) -> Level
         Level::Multiply => Level::Negate,
         Level::Negate | Level::Atom => Level::Atom,
     }
+}
+
+pub(crate) fn looser(level: Level) -> Level
+    ensures { result ≡ looser level }
+{
+    match level {
+        Level::Atom => Level::Negate,
+        Level::Negate => Level::Multiply,
+        Level::Multiply => Level::Add,
+        Level::Add => Level::Join,
+        Level::Join => Level::Compare,
+        Level::Compare => Level::Not,
+        Level::Not => Level::And,
+        Level::And => Level::Or,
+        Level::Or | Level::Expr => Level::Expr,
+    }
+}
+
+/// How loose a level is: the tightest is 0.
+pub(crate) fn rank(level: Level) -> u8
+    ensures { result ≡ rank level }
+{
+    match level {
+        Level::Expr => 9,
+        Level::Or => 8,
+        Level::And => 7,
+        Level::Not => 6,
+        Level::Compare => 5,
+        Level::Join => 4,
+        Level::Add => 3,
+        Level::Multiply => 2,
+        Level::Negate => 1,
+        Level::Atom => 0,
+    }
+}
+
+/// Whether a level holds together more tightly than another.
+pub(crate) fn is_tighter(level: Level, than: Level) -> bool
+    ensures { MatchBool result (rank level < rank than) (rank than ≤ rank level) }
+{
+    rank(level) < rank(than)
 }
 
 fn sign_operation(sign: Sign) -> Option<Op>
