@@ -3,3 +3,6 @@ pub mod Nesting
 pub mod RefusalTexts
 pub mod SkippedFaults
 pub mod Texts
+pub mod LineSizes
+pub mod TreeLines
+pub mod WellFormed

@@ -5,6 +5,7 @@
 //! of lines, `Texts` what a whole text is. The crates that read and write loop files are proved against them.
 #![tactic(auto)]
 
+pub mod laws;
 mod line;
 mod refusal;
 mod tree;
