@@ -1,6 +1,6 @@
 -- What every program is, as one computed test on trees: its names, literals and numbers of parts, the order of its lines, and the limits.
 -- Source: this project's language.
-use Rattle.std.specs.Prelude.{ℕ, zero, suc, ◌==◌, nat_lt, nat_le, Bool, true, false, not, ◌&&◌, List, [], ◌∷◌, length, map, Option, Some, None, is_some, ℤ, pos, negsuc, ◌^◌, if◌then◌else◌}
+use Rattle.std.specs.Prelude.{ℕ, zero, suc, ◌==◌, nat_lt, nat_le, Bool, true, false, not, ◌&&◌, List, [], ◌∷◌, length, map, Option, Some, None, is_some, ℤ, pos, negsuc, ◌^◌}
 use Rattle.std.specs.List.{list_all}
 use Rattle.std.specs.Str.{is_utf8}
 use Rattle.loop_tokens.specs.Bytes.{is_letter, is_word_byte}
@@ -31,7 +31,7 @@ use Rattle.loop_grammar.specs.declared.tree.ProgramTree.{ProgramTree}
 use Rattle.loop_grammar.specs.LineForms.{line_groups}
 use Rattle.loop_grammar.specs.Texts.{most_groups}
 use Rattle.loop_grammar.specs.LineSizes.{line_size, most_tokens}
-use Rattle.loop_grammar.specs.TreeLines.{statement_before, tree_lines}
+use Rattle.loop_grammar.specs.TreeLines.{tree_lines}
 
 -- ---- names and literals
 

@@ -1,6 +1,9 @@
-//! Laws of texts and programs: public functions with no body, whose contracts are the laws.
+//! Laws of texts and programs: public functions with no body, whose contracts are the laws; and what threads share.
 
-ghost use Rattle.loop_syntax.specs.Laws.{OneProgram, OneRefusal, NeverBoth, NeverNeither};
+ghost use Rattle.loop_syntax.specs.Laws.{OneProgram, OneRefusal, NeverBoth, NeverNeither, ProgramsAreWellFormed, WellFormedIsSpelled, FewParentheses};
+
+use crate::Program;
+use loop_data::laws::is_shared;
 
 /// A text spells one program at most.
 pub fn one_program()
@@ -21,3 +24,25 @@ pub fn never_both()
 pub fn never_neither()
     ensures { NeverNeither }
 {}
+
+/// Every program passes the test of well-formed trees.
+pub fn programs_are_well_formed()
+    ensures { ProgramsAreWellFormed }
+{}
+
+/// The canonical text of every well-formed tree spells that tree, line numbers included, so that a tree is shown to be a
+/// program by computing the test. The text may be longer than a loop file may be.
+pub fn well_formed_is_spelled()
+    ensures { WellFormedIsSpelled }
+{}
+
+/// At no place of what is written of a line are more parentheses open than the line has other tokens, for each line whose
+/// parts are well formed.
+pub fn few_parentheses()
+    ensures { FewParentheses }
+{}
+
+/// Threads share programs, and hand them to each other.
+pub fn threads_share_programs() {
+    is_shared::<Program>();
+}

@@ -5,7 +5,7 @@
 //! in `loop_layout`, specs/Canonical, and `loop_writer`, specs/Programs.
 #![tactic(auto)]
 
-mod laws;
+pub mod laws;
 mod program;
 mod read;
 mod write;

@@ -1,7 +1,8 @@
 //! Programs.
 
-ghost use Rattle.std.specs.Prelude.{◌≡◌};
+ghost use Rattle.std.specs.Prelude.{◌≡◌, true};
 ghost use Rattle.loop_grammar.specs.SkippedFaults.{skips_faults, skip_line};
+ghost use Rattle.loop_grammar.specs.WellFormed.{is_well_formed};
 ghost use Rattle.loop_syntax.specs.Programs.{IsProgram};
 
 use loop_data::{Binding, HeadLine, Many, PrintLine, Statement};
@@ -41,6 +42,7 @@ impl Program {
     pub fn tree(&self) -> &ProgramTree
         ensures parts { result.now ≡ self.now }
         ensures spelled { IsProgram self.now }
+        ensures well_formed { is_well_formed self.now ≡ true }
     {
         &self.tree
     }

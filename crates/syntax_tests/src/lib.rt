@@ -16,5 +16,6 @@ mod programs;
 mod skips;
 #[cfg(test)]
 mod tokens;
+pub mod trees;
 #[cfg(test)]
 mod writer;
