@@ -1,8 +1,10 @@
 -- The faults of a tower's input, and the one way in which a tower has no kinds of input.
-use Rattle.std.proofs.Common.{◌≡◌, Bool, true, false, List, Option, Some, None, Ok, Err, refl, ap, sym, ◌∙◌, subst}
-use Rattle.std.specs.Prelude.{if◌then◌else◌}
+use Rattle.std.proofs.Common.{◌≡◌, ℕ, Bool, true, false, List, [], ◌∷◌, ◌++◌, Option, Some, None, Ok, Err, refl, ap, sym, ◌∙◌, subst}
+use Rattle.std.specs.Prelude.{◌&&◌, if◌then◌else◌}
+use Rattle.std.specs.List.{list_all}
 use Rattle.loop_data.specs.declared.value.Value.{Value}
 use Rattle.loop_data.specs.declared.value.ValueKind.{ValueKind}
+use Rattle.loop_data.specs.declared.tower.Kind.{Kind}
 use Rattle.loop_data.specs.declared.tower.TowerExpr.{TowerExpr, fold-roll-TowerExpr, ind-TowerExpr, map-TowerExpr}
 use Rattle.loop_data.specs.declared.tower.TowerExpr.TheOpen.{TowerExpr-F, TowerExpr-F as t}
 use Rattle.loop_values.specs.declared.stop.EvalStop.{EvalStop}
@@ -12,7 +14,7 @@ use Rattle.loop_values.specs.Bindings.{Names, place_name}
 use Rattle.loop_values.specs.Kinds.{Kinds, Kinded, is_text, kind_of}
 use Rattle.loop_values.specs.Laws.{is_value_fault}
 use Rattle.loop_values.specs.Operations.{Outcome, and_then}
-use Rattle.loop_values.specs.Values.{Meaning, bound}
+use Rattle.loop_values.specs.Values.{Meaning, bound, value_of}
 use Rattle.loop_values.proofs.FaultLemmas.{differs_only, three_faults}
 use Rattle.tower_inputs.specs.InputKinds.{InputKinds, both_kinds, followed_by, input_kinds_step, kind_that, kinds_of_input, one_kind, takes}
 use Rattle.tower_inputs.specs.Inputs.{input_of, input_step, paired}

@@ -1,18 +1,19 @@
 -- A tower whose expressions have such kinds as it takes has an input that fits it.
-use Rattle.std.proofs.Common.{◌≡◌, ℕ, Bool, true, false, not, List, [], ◌∷◌, ◌++◌, Some, Ok, Err, inl, inr, refl, ap, sym, ◌∙◌, subst, rules}
-use Rattle.std.specs.Prelude.{◌&&◌, ◌||◌, ◌⊎◌, if◌then◌else◌, ℤ}
+use Rattle.std.proofs.Common.{◌≡◌, ℕ, Bool, true, false, not, List, [], ◌∷◌, ◌++◌, map, Option, Some, None, Ok, Err, inl, inr, refl, ap, sym, ◌∙◌, subst, rules}
+use Rattle.std.specs.Prelude.{◌&&◌, ◌||◌, ◌⊎◌, if◌then◌else◌, ℤ, Result}
 use Rattle.std.specs.List.{list_all}
 use Rattle.loop_data.specs.declared.value.Value.{Value, out-Value, the_lemmas as value_lemmas}
 use Rattle.loop_data.specs.declared.value.Value.TheVariants.{Int, Bool as BoolV, Text, Nothing}
 use Rattle.loop_data.specs.declared.value.Value.TheOpen.{Value-F as v}
 use Rattle.loop_data.specs.declared.value.ValueKind.{ValueKind, the_lemmas as kind_lemmas}
 use Rattle.loop_data.specs.declared.value.ValueKind.TheVariants as value_kind
-use Rattle.loop_data.specs.declared.tower.Kind.{Kind, out-Kind, fold-roll-Kind, map-Kind, the_lemmas as tower_lemmas}
+use Rattle.loop_data.specs.declared.tower.Kind.{Kind, out-Kind, roll-Kind, fold-roll-Kind, map-Kind, the_lemmas as tower_lemmas}
 use Rattle.loop_data.specs.declared.tower.Kind.TheOpen.{Kind-F, Kind-F as k}
 use Rattle.loop_data.specs.declared.tower.Kind.TheVariants as kind
 use Rattle.loop_data.specs.declared.tower.TowerExpr.{TowerExpr, fold-roll-TowerExpr, ind-TowerExpr, map-TowerExpr}
 use Rattle.loop_data.specs.declared.tower.TowerExpr.TheOpen.{TowerExpr-F, TowerExpr-F as t}
 use Rattle.loop_data.specs.ValueParts.{left_of, right_of}
+use Rattle.loop_values.specs.declared.stop.TypeStop.{TypeStop}
 use Rattle.loop_values.specs.Bindings.{Names, place_name}
 use Rattle.loop_values.specs.Fits as fi
 use Rattle.loop_values.specs.Fits.{Agree, fits, fits_tower, is_extreme, is_int_at, is_bool_at, is_text_at, is_nothing_at, is_pair, is_place_at}

@@ -2,13 +2,15 @@
 use Rattle.std.proofs.Common.{◌≡◌, ℕ, Bool, true, false, List, [], ◌∷◌, ◌++◌, Ok, Err, refl, ap, sym, ◌∙◌, subst}
 use Rattle.std.specs.Prelude.{if◌then◌else◌}
 use Rattle.loop_data.specs.declared.value.Value.{Value}
+use Rattle.loop_data.specs.declared.expr.Expr.{Expr}
+use Rattle.loop_data.specs.declared.tower.Kind.{Kind}
 use Rattle.loop_data.specs.declared.tower.TowerExpr.{TowerExpr, fold-roll-TowerExpr, ind-TowerExpr, map-TowerExpr}
 use Rattle.loop_data.specs.declared.tower.TowerExpr.TheOpen.{TowerExpr-F, TowerExpr-F as t}
 use Rattle.loop_values.specs.Bindings.{Names, place_name}
 use Rattle.loop_values.specs.Kinds.{Kinds, is_text, kind_of}
 use Rattle.loop_values.specs.NamesIn.{SameAt, names_in, names_read}
 use Rattle.loop_values.specs.Operations.{Outcome, and_then}
-use Rattle.loop_values.specs.Values.{Meaning, bound}
+use Rattle.loop_values.specs.Values.{Meaning, bound, value_of}
 use Rattle.loop_values.proofs.KindNames as kn
 use Rattle.loop_values.proofs.NamesLemmas.{back, front, settled}
 use Rattle.tower_inputs.specs.InputKinds.{InputKinds, both_kinds, input_kinds_step, kind_that, kinds_of_input, takes}

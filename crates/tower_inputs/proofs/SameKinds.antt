@@ -1,8 +1,8 @@
 -- Two lists of kinds that the test finds the same are equal, and a list of kinds is the same as itself.
-use Rattle.std.proofs.Common.{◌≡◌, ◌≢◌, Bool, true, false, List, [], ◌∷◌, length, refl, subst}
+use Rattle.std.proofs.Common.{◌≡◌, ◌≢◌, Bool, true, false, List, [], ◌∷◌, length, map, refl, subst}
 use Rattle.std.specs.Prelude.{◌&&◌}
 use Rattle.loop_data.specs.declared.value.ValueKind.{ValueKind}
-use Rattle.loop_values.specs.Kinds.{same_kind}
+use Rattle.loop_values.specs.Kinds.{same_all, same_kind}
 use Rattle.loop_values.proofs.KindLemmas.{same_all-lengths}
 use Rattle.loop_values.proofs.SameLemmas.{same_kind-sound, same_kind-along}
 use Rattle.loop_values.proofs.SoundLemmas.{both-true}

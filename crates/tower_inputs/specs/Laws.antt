@@ -1,6 +1,6 @@
 -- What holds of towers, their inputs and the kinds of these: the statements of the laws.
 -- Source: this project.
-use Rattle.std.specs.Prelude.{◌≡◌, true, false, List, Some, Ok, Err, ℤ}
+use Rattle.std.specs.Prelude.{◌≡◌, Bool, true, false, List, Some, Ok, Err, ℤ}
 use Rattle.std.specs.List.{list_all}
 use Rattle.loop_data.specs.declared.value.Value.{Value}
 use Rattle.loop_data.specs.declared.value.Value.TheVariants.{Int}
