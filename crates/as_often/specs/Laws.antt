@@ -1,6 +1,6 @@
 -- What follows from "as often", as statements.
 -- Source: this project.
-use Rattle.std.specs.Prelude.{◌≡◌, ℕ, List, length, sum_by, IsPermutation}
+use Rattle.std.specs.Prelude.{◌≡◌, ℕ, Bool, List, length, filter, sum_by, IsPermutation}
 use Rattle.splittable.specs.Parts.{Stretch, part_places}
 use Rattle.as_often.specs.AsOften.{AreAsOften}
 
@@ -19,3 +19,7 @@ worth w parts = sum_by (λ part. sum_by w (part_places part)) parts
 -- and they hold the same places as often
 abbrev pub AsOftenHoldsPlaces : Type 0
 AsOftenHoldsPlaces = (xs ys : List Stretch) → AreAsOften xs ys → (w : ℕ → ℕ) → worth w xs ≡ worth w ys
+
+-- and as many of each pass a test, so that the test of being one part counts that part
+abbrev pub AsOftenPassTests : Type 0
+AsOftenPassTests = (xs ys : List Stretch) → AreAsOften xs ys → (test : Stretch → Bool) → length (filter test xs) ≡ length (filter test ys)

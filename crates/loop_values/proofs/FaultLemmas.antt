@@ -1,10 +1,9 @@
 -- The faults of expressions and ranges, and the one way in which an expression has no kind.
-use Rattle.std.proofs.Common.{◌≡◌, ℕ, Bool, true, false, List, [], ◌∷◌, ◌++◌, map, Option, Some, None, Ok, Err, refl, ap, sym, ◌∙◌, subst, rules}
+use Rattle.std.proofs.Common.{◌≡◌, ℕ, Bool, true, false, List, [], ◌∷◌, ◌++◌, map, Option, Some, None, Ok, Err, refl, ap, sym, subst}
 use Rattle.std.specs.Prelude.{if◌then◌else◌, ℤ, option_map, pos, int_div}
 use Rattle.loop_data.specs.declared.value.Value.{Value}
 use Rattle.loop_data.specs.declared.value.Value.TheVariants.{Int, Bool as BoolV, Text}
 use Rattle.loop_data.specs.declared.value.ValueKind.{ValueKind}
-use Rattle.loop_data.specs.declared.value.ValueKind.TheVariants as kind
 use Rattle.loop_data.specs.declared.expr.Op.{Op}
 use Rattle.loop_data.specs.declared.expr.Op.TheVariants as op
 use Rattle.loop_data.specs.declared.expr.Word.{Word}
@@ -12,7 +11,7 @@ use Rattle.loop_data.specs.declared.expr.Word.TheVariants as word
 use Rattle.loop_data.specs.declared.expr.Expr.{Expr, fold-roll-Expr, ind-Expr, map-Expr}
 use Rattle.loop_data.specs.declared.expr.Expr.TheOpen.{Expr-F, Expr-F as e}
 use Rattle.loop_data.specs.declared.expr.RangeExpr.{RangeExpr}
-use Rattle.loop_data.specs.ValueParts.{as_int, as_bool}
+use Rattle.loop_data.specs.ValueParts.{as_int}
 use Rattle.loop_values.specs.declared.ranges.InnerRange.{InnerRange}
 use Rattle.loop_values.specs.declared.stop.EvalStop.{EvalStop}
 use Rattle.loop_values.specs.declared.stop.EvalStop.TheVariants as stop

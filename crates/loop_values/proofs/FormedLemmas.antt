@@ -1,11 +1,11 @@
 -- A kind that is given is well formed, where the kinds of names are.
-use Rattle.std.proofs.Common.{◌≡◌, ℕ, Bool, true, false, List, [], ◌∷◌, ◌++◌, length, map, Option, Some, None, Ok, Err, refl, ap, sym, ◌∙◌, subst, rules}
+use Rattle.std.proofs.Common.{◌≡◌, Bool, true, false, List, [], ◌∷◌, ◌++◌, length, map, Option, Some, None, Ok, Err, refl, ap, sym, ◌∙◌, subst, rules}
 use Rattle.std.specs.Prelude.{◌&&◌, if◌then◌else◌, option_map}
 use Rattle.std.specs.List.{list_all}
 use Rattle.loop_data.specs.declared.value.Value.{Value}
 use Rattle.loop_data.specs.declared.value.Value.TheVariants.{Int, Bool as BoolV, Text}
-use Rattle.loop_data.specs.declared.value.ValueKind.{ValueKind, out-ValueKind, map-ValueKind, the_lemmas as kind_lemmas}
-use Rattle.loop_data.specs.declared.value.ValueKind.TheOpen.{ValueKind-F, ValueKind-F as k}
+use Rattle.loop_data.specs.declared.value.ValueKind.{ValueKind, the_lemmas as kind_lemmas}
+use Rattle.loop_data.specs.declared.value.ValueKind.TheOpen.{ValueKind-F as k}
 use Rattle.loop_data.specs.declared.value.ValueKind.TheVariants as kind
 use Rattle.loop_data.specs.declared.expr.Op.{Op}
 use Rattle.loop_data.specs.declared.expr.Op.TheVariants as op
@@ -17,7 +17,7 @@ use Rattle.loop_values.specs.declared.stop.TypeStop.TheVariants.{Differs}
 use Rattle.loop_values.specs.Kinds as kn
 use Rattle.loop_values.specs.Kinds.{Kinds, Kinded, Typing, AreWellFormed, inside_maybe_at, is_maybe, is_plain_kind, is_tuple_length, is_well_formed, kind_if, kind_of, kind_step, plain_kind_step}
 use Rattle.loop_values.proofs.PlainLemmas.{formed_plain, length_map}
-use Rattle.loop_values.proofs.SoundLemmas.{bool_then, kind_if-ok, ok_kind, then-ok}
+use Rattle.loop_values.proofs.SoundLemmas.{ok_kind}
 
 formed-Int : is_well_formed kind.Int ≡ true
 formed-Int = search (rules, kind_lemmas)

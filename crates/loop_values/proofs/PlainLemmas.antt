@@ -5,13 +5,13 @@ use Rattle.std.specs.List.{list_all}
 use Rattle.loop_data.specs.declared.value.Value.{Value, out-Value, roll-Value, map-Value, the_lemmas as value_lemmas}
 use Rattle.loop_data.specs.declared.value.Value.TheOpen.{Value-F, Value-F as val}
 use Rattle.loop_data.specs.declared.value.Value.TheVariants.{Int, Bool as BoolV, Text, Nothing, Tuple}
-use Rattle.loop_data.specs.declared.value.ValueKind.{ValueKind, out-ValueKind, roll-ValueKind, ind-ValueKind, fold-roll-ValueKind, map-ValueKind, the_lemmas as kind_lemmas}
+use Rattle.loop_data.specs.declared.value.ValueKind.{ValueKind, out-ValueKind, ind-ValueKind, fold-roll-ValueKind, map-ValueKind, the_lemmas as kind_lemmas}
 use Rattle.loop_data.specs.declared.value.ValueKind.TheOpen.{ValueKind-F, ValueKind-F as k}
 use Rattle.loop_data.specs.declared.value.ValueKind.TheVariants as kind
 use Rattle.loop_values.specs.Fits.{fits, fits_at, fits_step, all_fit, is_plain, plain_step}
 use Rattle.loop_values.specs.Kinds.{is_bool, is_int, is_maybe, is_maybe_at, is_plain_kind, is_text, is_tuple_length, is_well_formed, inside_maybe_at, plain_kind_step}
 use Rattle.loop_values.specs.Laws.{IsFittingTuple}
-use Rattle.loop_values.proofs.SoundLemmas.{both-true, is_bool-is, is_int-is, is_text-is, maybe_at, maybe_eq}
+use Rattle.loop_values.proofs.SoundLemmas.{both-true, is_bool-is, is_int-is, is_text-is, maybe_eq}
 
 -- ---- a value is what it is rolled of
 

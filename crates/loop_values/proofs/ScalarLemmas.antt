@@ -1,6 +1,6 @@
 -- What operations of two sides give where a number or a truth value is needed of them, and of a whole expression.
-use Rattle.std.proofs.Common.{◌≡◌, ◌≢◌, Bool, true, false, Result, Ok, Err, refl, ap, sym, ◌∙◌, subst}
-use Rattle.std.specs.Prelude.{if◌then◌else◌, not, ℤ}
+use Rattle.std.proofs.Common.{◌≡◌, ◌≢◌, Bool, true, false, Ok, Err, refl, ap, sym, ◌∙◌, subst}
+use Rattle.std.specs.Prelude.{if◌then◌else◌, ℤ}
 use Rattle.loop_data.specs.declared.value.Value.{Value}
 use Rattle.loop_data.specs.declared.value.Value.TheVariants.{Int}
 use Rattle.loop_data.specs.declared.expr.Op.{Op}
@@ -11,7 +11,7 @@ use Rattle.loop_data.specs.ValueParts.{as_int, as_bool}
 use Rattle.loop_values.specs.declared.stop.EvalStop.{EvalStop}
 use Rattle.loop_values.specs.declared.stop.EvalStop.TheVariants.{DivideError}
 use Rattle.loop_values.specs.Bindings.{Names}
-use Rattle.loop_values.specs.Operations.{Outcome, Number, and_then, truth, two_of, decides, compared, has_no_quotient, is_arithmetic, is_comparison, gives_truth, arithmetic, int_or_fault, bool_or_fault, number_value, IsNumber, IsTruth}
+use Rattle.loop_values.specs.Operations.{Outcome, Number, and_then, truth, two_of, decides, compared, has_no_quotient, is_arithmetic, is_comparison, gives_truth, arithmetic, int_or_fault, number_value, IsNumber, IsTruth}
 use Rattle.loop_values.specs.Values.{value_of, second}
 use Rattle.loop_values.proofs.Layers.{value_of-Two}
 

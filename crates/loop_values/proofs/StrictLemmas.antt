@@ -1,9 +1,9 @@
 -- Where an expression has a kind, its value is the one that the evaluator without defaults gives.
 use Rattle.std.proofs.Common.{◌≡◌, ℕ, Bool, true, false, not, List, [], ◌∷◌, ◌++◌, length, map, Option, Some, None, Ok, Err, inl, inr, refl, ap, sym, ◌∙◌, subst, arith, length-append}
 use Rattle.std.specs.Prelude.{◌&&◌, ◌||◌, ◌⊎◌, if◌then◌else◌, ℤ, option_map}
-use Rattle.loop_data.specs.declared.value.Value.{Value, out-Value, roll-Value}
+use Rattle.loop_data.specs.declared.value.Value.{Value, out-Value}
 use Rattle.loop_data.specs.declared.value.Value.TheOpen.{Value-F, Value-F as val}
-use Rattle.loop_data.specs.declared.value.Value.TheVariants.{Int, Bool as BoolV, Text, Nothing, Tuple}
+use Rattle.loop_data.specs.declared.value.Value.TheVariants.{Int, Bool as BoolV, Text, Tuple}
 use Rattle.loop_data.specs.declared.value.ValueKind.{ValueKind, out-ValueKind, fold-roll-ValueKind, map-ValueKind}
 use Rattle.loop_data.specs.declared.value.ValueKind.TheOpen.{ValueKind-F, ValueKind-F as k}
 use Rattle.loop_data.specs.declared.value.ValueKind.TheVariants as kind
@@ -26,8 +26,8 @@ use Rattle.loop_values.specs.StrictValues as st
 use Rattle.loop_values.specs.StrictValues.{Strict, StrictMeaning, strict_value_of, strict_step}
 use Rattle.loop_values.specs.Values as va
 use Rattle.loop_values.specs.Values.{Meaning, value_of, value_step}
-use Rattle.loop_values.proofs.PlainLemmas.{int_value, bool_value, text_value, fit_lengths}
-use Rattle.loop_values.proofs.SoundLemmas.{append_fit, back, bool_else, bool_then, both-true, front, kind_if-ok, rolled, sound, then-ok}
+use Rattle.loop_values.proofs.PlainLemmas.{int_value, bool_value, text_value}
+use Rattle.loop_values.proofs.SoundLemmas.{back, bool_else, bool_then, both-true, front, kind_if-ok, rolled, sound, then-ok}
 
 -- ---- operands
 

@@ -3,6 +3,7 @@ ghost use Rattle.std.specs.Option.{option_copied};
 ghost use Rattle.std.specs.Ordering.{nat_cmp};
 ghost use Rattle.std.specs.Cmp.Lexicographic.{slice_cmp};
 ghost use Rattle.std.specs.FinMap.{find};
+ghost use Rattle.std.specs.Str.{bytes_eq};
 ghost use Rattle.loop_values.specs.Entries.{with_entry};
 
 use loop_data::TextValue;
@@ -15,7 +16,7 @@ pub(crate) fn entry_of<'a, T>(held: &'a [(TextValue, T)], name: &str) -> Option<
     ensures { option_copied result ≡ find (slice_cmp nat_cmp) name.now held.now }
 {
     for (key, item) in held {
-        if name == key.as_str() {
+        if is_same(name, key.as_str()) {
             return Some(item);
         }
     }
@@ -34,7 +35,7 @@ pub(crate) fn set_entry<T: Drop>(
     ensures known { find (slice_cmp nat_cmp) name.now held.old.items ≢ None → IsOk result }
 {
     for i in 0..held.len() {
-        if name == held[i].0.as_str() {
+        if is_same(name, held[i].0.as_str()) {
             held[i].1 = item;
             return Ok(());
         }
@@ -42,4 +43,26 @@ pub(crate) fn set_entry<T: Drop>(
     let key = TextValue::new(alloc, name)?;
     held.push((key, item))?;
     Ok(())
+}
+
+/// Whether two texts are one. Their lengths tell mostly, and a name of one letter takes no call.
+#[inline(always)]
+fn is_same(a: &str, b: &str) -> bool
+    ensures { result ≡ bytes_eq a.now b.now }
+{
+    if a.len() != b.len() {
+        return false;
+    }
+    if a.len() == 1 {
+        return a.as_bytes()[0] == b.as_bytes()[0];
+    }
+    is_same_text(a, b)
+}
+
+/// Whether two texts are one, byte by byte. It stands apart so that a search has little to keep from turn to turn.
+#[inline(never)]
+fn is_same_text(a: &str, b: &str) -> bool
+    ensures { result ≡ bytes_eq a.now b.now }
+{
+    a == b
 }

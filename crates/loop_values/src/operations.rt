@@ -82,6 +82,7 @@ pub(crate) fn two(alloc: Global, op: Op, x: &Value, y: &Value) -> Result<Value, 
 }
 
 /// An operation on two numbers that gives a number; 0 for any other operation.
+#[inline]
 pub(crate) fn arithmetic(op: Op, a: i64, b: i64) -> Result<i64, EvalStop>
     ensures { result ≡ arithmetic op a b }
 {

@@ -1,7 +1,7 @@
 ghost use Rattle.std.specs.Prelude.{◌≡◌, ◌≢◌, true, Ok, Err, IfSome};
 ghost use Rattle.std.specs.FinMap.{get};
 ghost use Rattle.loop_values.specs.Bindings.{Names};
-ghost use Rattle.loop_values.specs.Operations.{compared, IsNumber, IsTruth};
+ghost use Rattle.loop_values.specs.Operations.{compared, int_or_fault, IsNumber, IsTruth};
 ghost use Rattle.loop_values.specs.Values.{value_of, int_of, bool_of, bound};
 ghost use Rattle.loop_values.specs.Seen.{worth, worth_of};
 
@@ -84,18 +84,56 @@ fn is_truth(expr: &Expr) -> bool
     }
 }
 
-/// The number of an expression: that of its value, which is not made where it isn't needed.
+/// The number of an expression: that of its value, which is not made where it isn't needed. What items need most stands
+/// here and in `int_of_two`, and all else apart, so that these have little to clear on entry.
 #[cycle(eval)]
+#[inline(always)]
 fn int_of(alloc: Global, expr: &Expr, env: &Env) -> Result<i64, EvalStop>
     ensures { result ≢ Err EvalStop.NoMemory → result ≡ int_of expr.now (get env.now) }
 {
     match expr {
-        Expr::Neg(part) => Ok(negated(int_of(alloc, part.get(), env)?)),
+        Expr::Lit(value) => Ok(value.as_int()),
+        Expr::Name(name) => Ok(int_named(name.as_str(), env)),
+        Expr::Two { .. } => int_of_two(alloc, expr, env),
+        _ => int_of_other(alloc, expr, env),
+    }
+}
+
+/// The number of a name's value; 0 where the name isn't bound.
+fn int_named(name: &str, env: &Env) -> i64
+    ensures { Ok result ≡ int_or_fault (bound (get env.now name.now)) }
+{
+    match env.get(name) {
+        Some(value) => value.as_int(),
+        None => 0,
+    }
+}
+
+/// The number of an expression that is an operation.
+#[cycle(eval)]
+#[inline(never)]
+fn int_of_two(alloc: Global, expr: &Expr, env: &Env) -> Result<i64, EvalStop>
+    ensures { result ≢ Err EvalStop.NoMemory → result ≡ int_of expr.now (get env.now) }
+{
+    match expr {
         Expr::Two { op, left, right } if is_arithmetic(*op) => {
             let a = int_of(alloc, left.get(), env)?;
             let b = int_of(alloc, right.get(), env)?;
             arithmetic(*op, a, b)
         }
+        _ => int_of_any(alloc, expr, env),
+    }
+}
+
+/// The number of an expression of any other form.
+#[cycle(eval)]
+#[inline(never)]
+fn int_of_other(alloc: Global, expr: &Expr, env: &Env) -> Result<i64, EvalStop>
+    ensures { result ≢ Err EvalStop.NoMemory → result ≡ int_of expr.now (get env.now) }
+{
+    match expr {
+        Expr::Place => Ok(int_named(PLACE, env)),
+        Expr::Neg(part) => Ok(negated(int_of(alloc, part.get(), env)?)),
         Expr::Call {
             word: Word::Abs,
             part,
@@ -123,10 +161,7 @@ fn int_of(alloc: Global, expr: &Expr, env: &Env) -> Result<i64, EvalStop>
                 Some(other) => int_of(alloc, other.get(), env),
             }
         }
-        _ => match lent(expr, env) {
-            Some(value) => Ok(value.as_int()),
-            None => int_of_any(alloc, expr, env),
-        },
+        _ => int_of_any(alloc, expr, env),
     }
 }
 

@@ -255,7 +255,7 @@ shares v port share has more items views d at =
       has_left = omega arith;
       has_right = omega arith;
       done = (refl, refl, refl, refl);
-      none = (refl, refl, refl);
+      none = (refl, refl, refl, refl);
       of_left = crew;
       of_right = crew;
       others = λ j u ne a. d.crew j u a;
@@ -279,7 +279,7 @@ opens lens least port here items views d at =
       has_left = omega arith;
       has_right = omega arith;
       done = (refl, refl, refl, refl);
-      none = (refl, refl, refl);
+      none = (refl, refl, refl, refl);
       of_left = (refl, refl);
       of_right = (refl, refl);
       others = λ j u ne a has. let no = none_else j u ne a in absurd (omega arith);
@@ -310,7 +310,7 @@ merges v port u other here has items views d at ne at' =
       left = rw (stolen, kept) d.left;
       within = rw (stolen, kept) d.within;
       weights = total (λ (x : Account). x.weight) refl refl ∙ d.weights;
-      idle = each_set (λ x. x.weight ≡ 0 → IsSpent x) vs other spent (λ _. (refl, refl, refl))
+      idle = each_set (λ x. x.weight ≡ 0 → IsSpent x) vs other spent (λ _. (refl, refl, refl, refl))
           (each_set (λ x. x.weight ≡ 0 → IsSpent x) views port both (λ no. absurd (omega arith)) d.idle);
       crew = each_set (λ x. 0 < x.weight → (x.lens ≡ d.lens) × (x.least ≡ d.least)) vs other spent (λ no. absurd (omega arith))
           (each_set (λ x. 0 < x.weight → (x.lens ≡ d.lens) × (x.least ≡ d.least)) views port both (λ _. d.crew port v at has) d.crew);
@@ -330,7 +330,7 @@ makes lens least =
       left = refl;
       within = omega arith;
       weights = refl;
-      idle = each (λ u. u.weight ≡ 0 → IsSpent u) (λ _. (refl, refl, refl));
+      idle = each (λ u. u.weight ≡ 0 → IsSpent u) (λ _. (refl, refl, refl, refl));
       crew = each (λ u. 0 < u.weight → (u.lens ≡ lens) × (u.least ≡ least)) (λ _. (refl, refl));
       nodes = none (IsNode lens least);
       pushed = each (λ u. All (IsNode lens least) u.pushed) (none (IsNode lens least));

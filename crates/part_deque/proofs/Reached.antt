@@ -7,10 +7,10 @@ use lib.ListN.{get_elem?}
 use Rattle.splittable.specs.Parts.{Stretch}
 use Rattle.part_deque.specs.declared.account.Account.{Account}
 use Rattle.part_deque.specs.Rule.{DequeRule, whole_weight, kept_by, stolen_by}
-use Rattle.part_deque.specs.Steps.{with_popped, together, IsStep, a_push, a_pop, a_steal, a_split, a_join, IsReached, the_making, then_a_step}
+use Rattle.part_deque.specs.Steps.{with_popped, together, IsStep, a_push, a_pop, a_steal, a_split, a_naming, a_join, IsReached, the_making, then_a_step}
 use Rattle.part_deque.specs.Laws.{KnowsAll}
 use Rattle.part_deque.proofs.Views.{all_is_one, kept_own}
-use Rattle.part_deque.proofs.Keeps.{weighed, all_stolen, pushes, pops, takes, shares, merges, makes}
+use Rattle.part_deque.proofs.Keeps.{weighed, all_stolen, pushes, pops, takes, shares, opens, merges, makes}
 
 -- of two lists with one more the rests are one
 same_rest : (xs ys : List Stretch) (x : Stretch) → xs ++ x ∷ [] ≡ ys ++ x ∷ [] → xs ≡ ys
@@ -38,6 +38,7 @@ step_keeps _ _ views _ (a_steal {parts = parts} {port = port} {v = v} part h) d 
     let r = takes v port h.some_weight (part ∷ []) parts views (omega arith) (omega arith) d h.at in
     subst (λ u. DequeRule parts (set views port u)) r.2.now r.1
 step_keeps parts _ views _ (a_split port v share at some_share more) d = shares v port share some_share more parts views d at
+step_keeps parts _ views _ (a_naming lens least at) d = opens lens least 0 refl parts views d at
 step_keeps parts _ views _ (a_join {other = other} {v = v} {w = w} h g) d =
     merges v 0 w (suc other) refl h.some_weight parts views d h.at (not_first other) (beside views other (together v w) w g.at)
 

@@ -17,9 +17,9 @@ whole_weight = 4294967296
 abbrev pub Each : (Account → Type 0) → List Account → Type 0
 Each P views = (port : ℕ) (v : Account) → get_elem? views port ≡ some v → P v
 
--- an end that pushed nothing, took nothing and stole nothing
+-- an end that pushed nothing, took nothing, stole nothing and keeps nothing
 abbrev pub IsSpent : Account → Type 0
-IsSpent v = (v.pushed ≡ []) × (v.taken ≡ []) × (v.stolen ≡ 0)
+IsSpent v = (v.pushed ≡ []) × (v.taken ≡ []) × (v.stolen ≡ 0) × (v.kept ≡ [])
 
 -- the first account is the owner's: what its pushes and pops leave
 abbrev pub kept_by : List Account → List Stretch

@@ -6,7 +6,7 @@ use lib.ListN.{get_elem?}
 use Rattle.splittable.specs.Parts.{Stretch}
 use Rattle.splittable.specs.Nodes.{IsNode}
 use Rattle.part_deque.specs.declared.account.Account.{Account}
-use Rattle.part_deque.specs.Rule.{account, fresh, spent, whole_weight}
+use Rattle.part_deque.specs.Rule.{account, fresh, opening, spent, whole_weight}
 
 -- the weight of a right that is not cut any more
 abbrev pub right_weight : ℕ
@@ -55,7 +55,8 @@ pub record HasEnd (views : List Account) (port : ℕ) (v : Account) : Type 0 whe
   pub at : get_elem? views port ≡ some v
   pub some_weight : 0 < v.weight
 
--- One step: the parts and the accounts before it, and after it. The owner's end is the first; it alone pushes, pops and joins.
+-- One step: the parts and the accounts before it, and after it. The owner's end is the first; it alone pushes, pops and joins,
+-- and, where it has no crew yet, is named one by the cut of the first right.
 pub data IsStep : List Stretch → List Account → List Stretch → List Account → Type 0 where
   a_push : {parts : List Stretch} {views : List Account} {v : Account} (part : Stretch) → HasEnd views 0 v → IsNode v.lens v.least part
       → IsStep parts views (parts ++ part ∷ []) (slice_set views 0 (with_pushed v part))
@@ -65,6 +66,8 @@ pub data IsStep : List Stretch → List Account → List Stretch → List Accoun
       → IsStep (part ∷ parts) views parts (slice_set views port (with_stolen v part))
   a_split : {parts : List Stretch} {views : List Account} (port : ℕ) (v : Account) (share : ℕ) → get_elem? views port ≡ some v → 0 < share → share < v.weight
       → IsStep parts views parts (slice_set views port (without v share) ++ fresh share v.lens v.least ∷ [])
+  a_naming : {parts : List Stretch} {views : List Account} (lens : List ℕ) (least : ℕ) → get_elem? views 0 ≡ some opening
+      → IsStep parts views parts (slice_set views 0 (named lens least opening) ++ right_of lens least ∷ [])
   a_join : {parts : List Stretch} {views : List Account} {other : ℕ} {v w : Account} → HasEnd views 0 v → HasEnd views (suc other) w
       → IsStep parts views parts (slice_set (slice_set views 0 (together v w)) (suc other) spent)
 

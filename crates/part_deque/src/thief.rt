@@ -47,7 +47,8 @@ impl Model for PartThief {
 impl PartThief {
     /// Takes the part at the front, a node for the deque's shape and least part size.
     ///
-    /// None raises `misses`: the deque held at most the part that its owner may be popping, or another end was quicker.
+    /// None raises `misses`. It comes where the kit's deque found nothing or lost a race; no clause ties it to what the deque
+    /// holds.
     pub fn steal(&mut self) -> Option<Part>
         ensures same { SameThief self.old self.new }
         ensures some { IfSome result (λ part. self.new ≡ after_steal self.old part) }

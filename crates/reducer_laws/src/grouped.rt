@@ -1,6 +1,6 @@
 //! Inputs by their keys.
 
-ghost use Rattle.std.specs.Prelude.{◌≡◌, ◌≢◌, ◌↔◌, ℕ, List, [], ◌∷◌, length, IsTrue, IsOk, None, Some, Ok, IfOk, OnOk};
+ghost use Rattle.std.specs.Prelude.{◌≡◌, ◌≢◌, ◌↔◌, ℕ, List, [], ◌∷◌, length, IsTrue, IsOk, None, Some, Ok, IfOk, OnErr, OnOk};
 ghost use Rattle.std.specs.Borrow.{LendsSo, sem};
 ghost use Rattle.std.specs.Option.{option_copied, option_copied_mut};
 ghost use Rattle.reducer_laws.specs.contracts.grouped.Groups.{the_row};
@@ -94,9 +94,11 @@ impl<S: Drop> Groups<S> {
         self.tree.into_iter()
     }
 
-    /// Puts a state at a key, in place of the one that stood there. A refusal is want of memory, and comes only for a new key.
+    /// Puts a state at a key, in place of the one that stood there. A refusal is want of memory, and comes only for a new key:
+    /// then the groups are as before, and key and state are given up.
     pub fn insert(&mut self, key: TextValue, state: S) -> Result<(), NoMemory>
         ensures holds { OnOk result (HoldsAt key state self.old self.new) }
+        ensures kept { OnErr result (self.new ≡ self.old) }
         ensures free { state_at key self.old ≢ None → IsOk result }
     {
         self.tree.insert(key, state)?;

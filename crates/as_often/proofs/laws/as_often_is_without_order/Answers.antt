@@ -1,4 +1,4 @@
-use Rattle.as_often.proofs.Weighing.{order_is_no_matter, as_long, as_worthy}
+use Rattle.as_often.proofs.Weighing.{order_is_no_matter, as_long, as_worthy, as_many_pass}
 use Rattle.as_often.proofs.laws.as_often_is_without_order.Goals as goal
 
 pub returns-clause-order : goal.returns-clause-order
@@ -9,3 +9,6 @@ returns-clause-long c = as_long
 
 pub returns-clause-places : goal.returns-clause-places
 returns-clause-places c = as_worthy
+
+pub returns-clause-tests : goal.returns-clause-tests
+returns-clause-tests c = as_many_pass

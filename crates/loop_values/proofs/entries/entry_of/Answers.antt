@@ -3,8 +3,8 @@ use Rattle.std.specs.Str.{bytes_eq}
 use Rattle.loop_values.proofs.EntryLemmas.{find-at}
 use Rattle.loop_values.proofs.entries.entry_of.Goals as goal
 
-pub returns-then-eq : goal.returns-then-eq
-returns-then-eq g c =
+pub returns-then-is_same : goal.returns-then-is_same
+returns-then-is_same g c =
     let t : bytes_eq c.args.name.now c.loop-key-item.result.0 ≡ true = search rules in
     sym (c.loop-key.invariant ∙ find-at c.args.name.now c.args.held.now c.loop-key.key-index c.loop-key-item.result true c.loop-key-test.true c.loop-key-item.is t)
 

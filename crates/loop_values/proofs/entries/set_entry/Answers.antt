@@ -5,8 +5,8 @@ use Rattle.loop_values.specs.Entries.{with_entry}
 use Rattle.loop_values.proofs.EntryLemmas.{with_entry-here, with_entry-past, find-at}
 use Rattle.loop_values.proofs.entries.set_entry.Goals as goal
 
-pub returns-then-eq-clause-ok : goal.returns-then-eq-clause-ok
-returns-then-eq-clause-ok g c =
+pub returns-then-is_same-clause-ok : goal.returns-then-is_same-clause-ok
+returns-then-is_same-clause-ok g c =
     let t : bytes_eq c.args.name.now c.index.result.now.0 ≡ true = search rules in
     let u = ap (λ e. bytes_eq c.args.name.now e.0) (sym c.index.ensures) ∙ t in
     let lt : c.loop-i.i < length c.loop-i.held.items = omega (arith, ap length c.loop-i.invariant.same, c.args.held.now.ok.0) in

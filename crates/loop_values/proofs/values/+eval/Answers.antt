@@ -4,14 +4,14 @@ use Rattle.loop_values.specs.Operations.{is_arithmetic}
 use Rattle.loop_values.proofs.ScalarLemmas.{int-Two, number-Two}
 use Rattle.loop_values.proofs.values.+eval.Goals as goal
 
-pub int_of-returns-in_err-b-in-Two : goal.int_of-returns-in_err-b-in-Two
-int_of-returns-in_err-b-in-Two t c =
+pub int_of_two-returns-in_err-b-in-Two : goal.int_of_two-returns-in_err-b-in-Two
+int_of_two-returns-in_err-b-in-Two t c =
     let h : is_arithmetic c.in-Two.op ≡ true = search rules in
     let e = int-Two (map.get c.args.env.now) c.in-Two.op c.in-Two.left c.in-Two.right h in
     search (rules, e)
 
-pub int_of-returns-in_ok-b-in-Two : goal.int_of-returns-in_ok-b-in-Two
-int_of-returns-in_ok-b-in-Two t c =
+pub int_of_two-returns-in_ok-b-in-Two : goal.int_of_two-returns-in_ok-b-in-Two
+int_of_two-returns-in_ok-b-in-Two t c =
     let h : is_arithmetic c.in-Two.op ≡ true = search rules in
     let e = int-Two (map.get c.args.env.now) c.in-Two.op c.in-Two.left c.in-Two.right h in
     search (rules, e)
