@@ -1,5 +1,5 @@
 -- What is written of a line has tokens like those that spelled it.
-use Rattle.std.proofs.Common.{ℕ, Bool, true, false, List, [], ◌∷◌, ◌++◌, map, Option, Some, None, sym, subst}
+use Rattle.std.proofs.Common.{◌≡◌, ℕ, Bool, true, false, List, [], ◌∷◌, ◌++◌, map, Option, Some, None, sym, subst}
 use Rattle.loop_tokens.specs.declared.token.Token.{Token}
 use Rattle.loop_tokens.specs.declared.token.Token.TheVariants as tok
 use Rattle.loop_tokens.specs.declared.keyword.Keyword.TheVariants as kw
@@ -169,7 +169,11 @@ module _ (P : Token → Type 0) (k : Keeps P) where
 
   -- ---- lines
 
+  name_kept : {n m : List ℕ} → n ≡ m → P (tok.Name n) → P (tok.Name m)
+  name_kept e h = subst (λ z. P (tok.Name z)) e h
+
   pub line_kept : {form : Line} {u : Bool} {ts : List Token} → SpellsLine form u ts → AllTokens P ts → AllTokens P (tokens_in (line_marks form))
+  line_kept (SpellsLine.skip_faults on fault skip) h = (name_kept on h.0, (name_kept fault h.1.0, (name_kept skip h.1.1.0, tt)))
   line_kept (SpellsLine.var s) h = (k.words kw.Var, (h.1.0, (k.signs sg.Assign, (literal_kept s h.1.1.1).0.ok true)))
   line_kept (SpellsLine.init s) h = (k.at_words at.Init, (h.1.0, (k.signs sg.Assign, (literal_kept s h.1.1.1).0.ok true)))
   line_kept (SpellsLine.for_ {ns = ns} {xs = ps} {product = product} {hs = hs} most s t i) h =

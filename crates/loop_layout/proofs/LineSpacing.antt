@@ -133,6 +133,7 @@ assigned : (n : List ℕ) (m : Written) → Spaced m → Follows (apart (tok.Nam
 assigned n m s = follows_apart (tok.Name n) (apart (tok.Sign sg.Assign) ∷ m true) (s.ok true (tok.Sign sg.Assign) refl)
 
 line_spaced : (form : Line) → spaced (line_marks form) ≡ true
+line_spaced l.SkipFaults = refl
 line_spaced (l.Var n v) = (assigned n (value_marks v) (value_spaced v)).any (tok.Keyword kw.Var)
 line_spaced (l.Init n v) = (assigned n (value_marks v) (value_spaced v)).any (tok.At at.Init)
 line_spaced (l.For h) = spaced_append (tok.Keyword kw.For) (pattern_marks h.names true ++ apart (tok.Keyword kw.In) ∷ head_marks h.axes h.product true) (inner_marks h.inner)

@@ -1,6 +1,6 @@
 -- The canonical text of a program: each line on its own number, two spaces for each open block, one space between tokens but where the rules say none.
 -- Source: this project's language.
-use Rattle.std.specs.Prelude.{ℕ, suc, ◌*◌, Bool, true, false, List, [], ◌∷◌, ◌++◌, map, replicate, Option, Some, None, ℤ, pos, negsuc, if◌then◌else◌}
+use Rattle.std.specs.Prelude.{ℕ, suc, ◌*◌, Bool, true, false, List, [], ◌∷◌, ◌++◌, map, replicate, Option, Some, None, ℤ, pos, negsuc, if◌then◌else◌, codes}
 use Rattle.std.specs.Fmt.{signed_decimal}
 use Rattle.loop_tokens.specs.declared.token.Token.{Token}
 use Rattle.loop_tokens.specs.declared.token.Token.TheVariants as tok
@@ -249,13 +249,22 @@ abbrev pub start_marks : Option Value → List Mark
 start_marks None = []
 start_marks (Some v) = apart (tok.Keyword kw.From) ∷ value_marks v true
 
+-- `+=` with what is summed
+abbrev pub added_marks : Expr → List Mark
+added_marks p = apart (tok.Sign sg.PlusAssign) ∷ expr_marks p true
+
+-- `=` with the tower and its start value
+abbrev pub assigned_marks : TowerExpr → Option Value → List Mark
+assigned_marks p start = apart (tok.Sign sg.Assign) ∷ tower_marks p true ++ start_marks start
+
 -- what follows the name: a `sum` at the top without a start value is written with `+=`
 abbrev pub folded_marks : TowerExpr → Option Value → List Mark
-folded_marks (tower.Leaf kind.Sum p) None = apart (tok.Sign sg.PlusAssign) ∷ expr_marks p true
-folded_marks p start = apart (tok.Sign sg.Assign) ∷ tower_marks p true ++ start_marks start
+folded_marks (tower.Leaf kind.Sum p) None = added_marks p
+folded_marks p start = assigned_marks p start
 
 -- what is written of a line
 abbrev pub line_marks : Line → List Mark
+line_marks l.SkipFaults = glued (tok.Name (codes "on")) ∷ apart (tok.Name (codes "fault")) ∷ apart (tok.Name (codes "skip")) ∷ []
 line_marks (l.Var n v) = glued (tok.Keyword kw.Var) ∷ apart (tok.Name n) ∷ apart (tok.Sign sg.Assign) ∷ value_marks v true
 line_marks (l.Init n v) = glued (tok.At at.Init) ∷ apart (tok.Name n) ∷ apart (tok.Sign sg.Assign) ∷ value_marks v true
 line_marks (l.For h) = glued (tok.Keyword kw.For) ∷ pattern_marks h.names true ++ apart (tok.Keyword kw.In) ∷ head_marks h.axes h.product true ++ inner_marks h.inner

@@ -23,7 +23,7 @@ use Rattle.loop_heads.specs.Tokens.{NoNameFirst}
 use Rattle.loop_heads.specs.Heads.{SpellsHeads, HeadsAt}
 use Rattle.loop_heads.proofs.Patterns.{one_pattern}
 use Rattle.loop_heads.proofs.AllHeads.{one_heads}
-use Rattle.loop_lines.specs.Claims.{NotAssigned, Tells, WholeExpr, WholeLiteral, PatternUpTo, TowerAt, LineOf, OneLine}
+use Rattle.loop_lines.specs.Claims.{NotAssigned, Tells, IsSkip, WholeExpr, WholeLiteral, PatternUpTo, TowerAt, LineOf, OneLine}
 use Rattle.loop_lines.proofs.Steps.{tails}
 use Rattle.loop_lines.proofs.Towers.{same_or, exactly}
 
@@ -75,6 +75,9 @@ set_case : {n : List ℕ} {x : Expr} {y : Line} {u v : Bool} {ts : List Token} �
     SpellsLine y v (tok.Name n ∷ tok.Sign sg.Assign ∷ ts) → SameLine (l.Set n x) u y v
 set_case {n = n} d (SpellsLine.set e) = let same = one_expr d e in (ap (λ z. l.Set n z) same.0, same.1)
 
+skip_case : {a b c : List ℕ} {y : Line} {v : Bool} → SpellsLine y v (tok.Name a ∷ tok.Name b ∷ tok.Name c ∷ []) → SameLine l.SkipFaults false y v
+skip_case (SpellsLine.skip_faults p q r) = (refl, refl)
+
 if_case : {x : Expr} {y : Line} {u v : Bool} {ts : List Token} → Spells level.Expr x u ts [] → SpellsLine y v (tok.Keyword kw.If ∷ ts) → SameLine (l.If x) u y v
 if_case d (SpellsLine.if_ e) = let same = one_expr d e in (ap (λ z. l.If z) same.0, same.1)
 
@@ -118,6 +121,7 @@ print_case : {n : List ℕ} {y : Line} {v : Bool} → SpellsLine y v (tok.Keywor
 print_case SpellsLine.print = (refl, refl)
 
 pub same_line : {x y : Line} {u v : Bool} {ts : List Token} → SpellsLine x u ts → SpellsLine y v ts → SameLine x u y v
+same_line (SpellsLine.skip_faults p q r) e = skip_case e
 same_line (SpellsLine.var d) e = var_case d e
 same_line (SpellsLine.init d) e = init_case d e
 same_line (SpellsLine.for_ h p d f) e = for_case (SpellsHeads.heads h p d f) e
@@ -190,11 +194,19 @@ let_expr_at {ns = ns} {ts = ts} {us = us} p none (SpellsLine.let_ {ns = ms} {x =
 pub no_let_expr : (ns : List (List ℕ)) (ts us : List Token) → SpellsPattern ns ts (tok.Sign sg.Assign ∷ us) → Tells (WholeExpr us) None → Tells (LineOf (tok.Keyword kw.Let ∷ ts)) None
 no_let_expr ns ts us q none p d = let_expr_at q none d
 
-set_sign_at : {n : List ℕ} {x : Line} {u : Bool} {ts : List Token} → NotFirst (tok.Sign sg.Assign) ts → SpellsLine x u (tok.Name n ∷ ts) → ⊥
-set_sign_at none (SpellsLine.set {ts = ts} d) = none ts refl
+two_names : {a b c d : List ℕ} → a ≡ c → b ≡ d → tok.Name a ∷ tok.Name b ∷ [] ≡ tok.Name c ∷ tok.Name d ∷ []
+two_names {b = b} {c = c} p q = ap (λ z. tok.Name z ∷ tok.Name b ∷ []) p ∙ ap (λ z. tok.Name c ∷ tok.Name z ∷ []) q
 
-pub no_set_sign : (n : List ℕ) (ts : List Token) → NotFirst (tok.Sign sg.Assign) ts → Tells (LineOf (tok.Name n ∷ ts)) None
-no_set_sign n ts none p d = set_sign_at none d
+skip_at : {n : List ℕ} {x : Line} {u : Bool} {ts : List Token} → NotFirst (tok.Sign sg.Assign) ts → (IsSkip n ts → ⊥) → SpellsLine x u (tok.Name n ∷ ts) → ⊥
+skip_at none other (SpellsLine.set {ts = ts} d) = none ts refl
+skip_at none other (SpellsLine.skip_faults p q r) = other (p, two_names q r)
+
+pub no_skip : (n : List ℕ) (ts : List Token) → NotFirst (tok.Sign sg.Assign) ts → (IsSkip n ts → ⊥) → Tells (LineOf (tok.Name n ∷ ts)) None
+no_skip n ts none other p d = skip_at none other d
+
+pub skip_spelled : (n : List ℕ) (ts : List Token) → IsSkip n ts → SpellsLine l.SkipFaults false (tok.Name n ∷ ts)
+skip_spelled n ts (p, q) =
+    let P : List Token → Type 0 = λ z. SpellsLine l.SkipFaults false (tok.Name n ∷ z) in subst P (sym q) (SpellsLine.skip_faults p refl refl)
 
 set_expr_at : {n : List ℕ} {x : Line} {u : Bool} {ts : List Token} → Tells (WholeExpr ts) None → SpellsLine x u (tok.Name n ∷ tok.Sign sg.Assign ∷ ts) → ⊥
 set_expr_at none (SpellsLine.set {x = x} {u = u} d) = none (x, u) d
@@ -332,6 +344,7 @@ pub no_word : (k : Keyword) (ts : List Token) → k ≢ kw.Var → k ≢ kw.For 
 no_word k ts a b c d e f g h i j p z = word_at a b c d e f g h i j z
 
 pub nonempty : {x : Line} {u : Bool} {ts : List Token} → SpellsLine x u ts → ts ≢ []
+nonempty (SpellsLine.skip_faults p q r) h = cc
 nonempty (SpellsLine.var d) h = cc
 nonempty (SpellsLine.init d) h = cc
 nonempty (SpellsLine.for_ g p d f) h = cc

@@ -10,8 +10,8 @@ use Rattle.loop_grammar.specs.declared.line.Line.{Line}
 use Rattle.loop_grammar.specs.declared.refusal.SyntaxRefusal.{SyntaxRefusal}
 use Rattle.loop_grammar.specs.declared.refusal.SyntaxRefusal.TheVariants as refusal
 use Rattle.loop_grammar.specs.LineForms.{SpellsLine, line_groups}
-use Rattle.loop_grammar.specs.Texts.{Verdict, blank, says, faulty, too_deep, not_a_line, too_wide, TokensSay, most_groups}
-use Rattle.loop_lines.specs.Verdicts.{said, refusal_of, IsRefusal, IsVerdict, IsFault, unless, OneVerdict, OneSaying}
+use Rattle.loop_grammar.specs.Texts.{Verdict, blank, says, refused, too_deep, not_a_line, too_wide, TokensSay, most_groups}
+use Rattle.loop_lines.specs.Verdicts.{said, refusal_of, IsRefusal, IsVerdict, IsOwnRefusal, unless, OneVerdict, OneSaying}
 use Rattle.loop_lines.specs.Claims.{Tells, LineOf}
 use Rattle.loop_lines.proofs.Steps.{itself}
 use Rattle.loop_lines.proofs.OneLine.{same_line, true_false, nonempty}
@@ -25,7 +25,7 @@ above n m k e h g = omega arith
 over : {x y : Line} → x ≡ y → most_groups < line_groups x → line_groups y ≤ most_groups → ⊥
 over {x = x} {y = y} same h g = above (line_groups x) (line_groups y) most_groups (ap (λ z. line_groups z) same) h g
 
-deep_case : {ts : List Token} {whole : Bool} {b : Verdict} → is_too_deep ts ≡ true → TokensSay ts whole b → faulty too_deep ≡ b
+deep_case : {ts : List Token} {whole : Bool} {b : Verdict} → is_too_deep ts ≡ true → TokensSay ts whole b → refused too_deep ≡ b
 deep_case h (TokensSay.deep g) = refl
 deep_case h (TokensSay.stuck g) = absurd (both_ways h g)
 deep_case h TokensSay.none = absurd (true_false (sym h))
@@ -34,7 +34,7 @@ deep_case h (TokensSay.groups g d k) = absurd (both_ways h g)
 deep_case h (TokensSay.wide g d k) = absurd (both_ways h g)
 deep_case h (TokensSay.line g d k) = absurd (both_ways h g)
 
-stuck_case : {ts : List Token} {b : Verdict} → is_too_deep ts ≡ false → TokensSay ts false b → faulty not_a_line ≡ b
+stuck_case : {ts : List Token} {b : Verdict} → is_too_deep ts ≡ false → TokensSay ts false b → refused not_a_line ≡ b
 stuck_case h (TokensSay.deep g) = absurd (both_ways g h)
 stuck_case h (TokensSay.stuck g) = refl
 
@@ -46,7 +46,7 @@ none_case (TokensSay.groups g d k) = absurd (nonempty d refl)
 none_case (TokensSay.wide g d k) = absurd (nonempty d refl)
 none_case (TokensSay.line g d k) = absurd (nonempty d refl)
 
-other_case : {ts : List Token} {b : Verdict} → is_too_deep ts ≡ false → ts ≢ [] → ((x : Line) (w : Bool) → SpellsLine x w ts → ⊥) → TokensSay ts true b → faulty not_a_line ≡ b
+other_case : {ts : List Token} {b : Verdict} → is_too_deep ts ≡ false → ts ≢ [] → ((x : Line) (w : Bool) → SpellsLine x w ts → ⊥) → TokensSay ts true b → refused not_a_line ≡ b
 other_case h more free (TokensSay.deep g) = absurd (both_ways g h)
 other_case h more free TokensSay.none = absurd (more refl)
 other_case h more free (TokensSay.not_spelled g n s) = refl
@@ -54,7 +54,7 @@ other_case h more free (TokensSay.groups {x = x} {wide = w} g d k) = absurd (fre
 other_case h more free (TokensSay.wide {x = x} g d k) = absurd (free x true d)
 other_case h more free (TokensSay.line {x = x} g d k) = absurd (free x false d)
 
-groups_case : {ts : List Token} {x : Line} {u : Bool} {b : Verdict} → is_too_deep ts ≡ false → SpellsLine x u ts → most_groups < line_groups x → TokensSay ts true b → faulty too_deep ≡ b
+groups_case : {ts : List Token} {x : Line} {u : Bool} {b : Verdict} → is_too_deep ts ≡ false → SpellsLine x u ts → most_groups < line_groups x → TokensSay ts true b → refused too_deep ≡ b
 groups_case h d k (TokensSay.deep g) = refl
 groups_case h d k TokensSay.none = absurd (nonempty d refl)
 groups_case {x = x} {u = u} h d k (TokensSay.not_spelled g n s) = absurd (s x u d)
@@ -62,7 +62,7 @@ groups_case h d k (TokensSay.groups g e f) = refl
 groups_case h d k (TokensSay.wide g e f) = absurd (over (same_line d e).0 k f)
 groups_case h d k (TokensSay.line g e f) = absurd (over (same_line d e).0 k f)
 
-wide_case : {ts : List Token} {x : Line} {b : Verdict} → is_too_deep ts ≡ false → SpellsLine x true ts → line_groups x ≤ most_groups → TokensSay ts true b → faulty too_wide ≡ b
+wide_case : {ts : List Token} {x : Line} {b : Verdict} → is_too_deep ts ≡ false → SpellsLine x true ts → line_groups x ≤ most_groups → TokensSay ts true b → refused too_wide ≡ b
 wide_case h d k (TokensSay.deep g) = absurd (both_ways g h)
 wide_case h d k TokensSay.none = absurd (nonempty d refl)
 wide_case {x = x} h d k (TokensSay.not_spelled g n s) = absurd (s x true d)
@@ -121,15 +121,15 @@ refusal_verdict (refusal.BadNesting k) ts whole n d = d
 refusal_verdict (refusal.TooDeep k) ts whole n d = d
 refusal_verdict (refusal.NumberTooWide k) ts whole n d = d
 
-pub settled : (o : Option SyntaxRefusal) (x : Line) (u : Bool) (ts : List Token) (n : ℕ) (r : Result (Option Line) SyntaxRefusal) → r ≡ unless o (Some x) → IsFault n x u o →
+pub settled : (o : Option SyntaxRefusal) (x : Line) (u : Bool) (ts : List Token) (n : ℕ) (r : Result (Option Line) SyntaxRefusal) → r ≡ unless o (Some x) → IsOwnRefusal n x u o →
     is_too_deep ts ≡ false → SpellsLine x u ts → IsVerdict ts true n r
 settled None x u ts n r same f h d = let P : Result (Option Line) SyntaxRefusal → Type 0 = λ s. IsVerdict ts true n s in subst P (sym same) (f ts h d)
 settled (Some e) x u ts n r same f h d = let P : Result (Option Line) SyntaxRefusal → Type 0 = λ s. IsVerdict ts true n s in subst P (sym same) (refusal_verdict e ts true n (f ts h d))
 
-pub refused : (e : ReadError) (ts : List Token) (n : ℕ) (r : SyntaxRefusal) → r ≡ refusal_of e n → is_too_deep ts ≡ false → ts ≢ [] → Gives (Tells (LineOf ts)) itself (Err e) →
+pub not_read : (e : ReadError) (ts : List Token) (n : ℕ) (r : SyntaxRefusal) → r ≡ refusal_of e n → is_too_deep ts ≡ false → ts ≢ [] → Gives (Tells (LineOf ts)) itself (Err e) →
     IsVerdict ts true n (Err r)
-refused NoMemory ts n r same h more none = let P : SyntaxRefusal → Type 0 = λ s. IsVerdict ts true n (Err s) in subst P (sym same) tt
-refused NotSpelled ts n r same h more none =
+not_read NoMemory ts n r same h more none = let P : SyntaxRefusal → Type 0 = λ s. IsVerdict ts true n (Err s) in subst P (sym same) tt
+not_read NotSpelled ts n r same h more none =
     let P : SyntaxRefusal → Type 0 = λ s. IsVerdict ts true n (Err s) in
     subst P (sym same) (not_a_line, TokensSay.not_spelled h more (λ x w d. none (x, w) d), refl)
 

@@ -5,11 +5,10 @@ ghost use Rattle.loop_tokens.specs.declared.token.Token.TheVariants as t;
 ghost use Rattle.loop_tokens.specs.declared.sign.Sign.TheVariants as sg;
 ghost use Rattle.loop_tokens.specs.declared.keyword.AtWord.TheVariants as at;
 ghost use Rattle.loop_exprs.specs.Grammar.{NotFirst};
-ghost use Rattle.loop_exprs.specs.Reading.{Gives};
 ghost use Rattle.loop_grammar.specs.LineForms.{SpellsLine};
-ghost use Rattle.loop_lines.specs.Claims.{Tells, LineOf, GivesReduced, OneLine};
+ghost use Rattle.loop_lines.specs.Claims.{GivesLine, GivesReduced, reducing, OneLine};
 
-use crate::front::{assigned, is_end, split};
+use crate::front::{assigned, is_end, is_skip, split};
 use crate::parts::{names_up_to, text, whole_expr, whole_literal};
 use crate::tower::{either, tower};
 use loop_data::{Kind, TowerExpr};
@@ -21,7 +20,7 @@ use std::alloc::Global;
 
 /// Reads what follows `var`.
 fn var(alloc: Global, tokens: &[Token<'_>]) -> Result<(Line, bool), ReadError>
-    ensures { Gives (Tells (LineOf (t.Keyword Keyword.Var ∷ tokens.now))) (λ p. p) result }
+    ensures { GivesLine (t.Keyword Keyword.Var ∷ tokens.now) result }
 {
     let Some((word, rest)) = assigned(tokens) else {
         return Err(ReadError::NotSpelled);
@@ -33,7 +32,7 @@ fn var(alloc: Global, tokens: &[Token<'_>]) -> Result<(Line, bool), ReadError>
 
 /// Reads what follows `@init`.
 fn init(alloc: Global, tokens: &[Token<'_>]) -> Result<(Line, bool), ReadError>
-    ensures { Gives (Tells (LineOf (t.At at.Init ∷ tokens.now))) (λ p. p) result }
+    ensures { GivesLine (t.At at.Init ∷ tokens.now) result }
 {
     let Some((word, rest)) = assigned(tokens) else {
         return Err(ReadError::NotSpelled);
@@ -45,7 +44,7 @@ fn init(alloc: Global, tokens: &[Token<'_>]) -> Result<(Line, bool), ReadError>
 
 /// Reads what follows `for`.
 fn for_line(alloc: Global, tokens: &[Token<'_>]) -> Result<(Line, bool), ReadError>
-    ensures { Gives (Tells (LineOf (t.Keyword Keyword.For ∷ tokens.now))) (λ p. p) result }
+    ensures { GivesLine (t.Keyword Keyword.For ∷ tokens.now) result }
 {
     let (heads, wide) = read_heads(alloc, tokens)?;
     Ok((Line::For(heads), wide))
@@ -53,28 +52,51 @@ fn for_line(alloc: Global, tokens: &[Token<'_>]) -> Result<(Line, bool), ReadErr
 
 /// Reads what follows `let`.
 fn let_line(alloc: Global, tokens: &[Token<'_>]) -> Result<(Line, bool), ReadError>
-    ensures { Gives (Tells (LineOf (t.Keyword Keyword.Let ∷ tokens.now))) (λ p. p) result }
+    ensures { GivesLine (t.Keyword Keyword.Let ∷ tokens.now) result }
 {
     let (names, rest) = names_up_to(alloc, Sign::Assign, tokens)?;
     let (expr, wide) = whole_expr(alloc, rest)?;
     Ok((Line::Let { names, expr }, wide))
 }
 
-/// Reads what follows the name that comes first.
+/// Reads what follows the name that comes first and `=`.
 fn set(alloc: Global, word: &Piece<'_>, tokens: &[Token<'_>]) -> Result<(Line, bool), ReadError>
-    ensures { Gives (Tells (LineOf (t.Name word.now ∷ tokens.now))) (λ p. p) result }
+    ensures { GivesLine (t.Name word.now ∷ t.Sign sg.Assign ∷ tokens.now) result }
 {
-    let Some(rest) = eat(Sign::Assign, tokens) else {
-        return Err(ReadError::NotSpelled);
-    };
-    let (expr, wide) = whole_expr(alloc, rest)?;
+    let (expr, wide) = whole_expr(alloc, tokens)?;
     let name = text(alloc, word)?;
     Ok((Line::Set { name, expr }, wide))
 }
 
+/// Reads what follows the name that comes first, which is no `=`.
+fn skip_line(word: &Piece<'_>, tokens: &[Token<'_>]) -> Result<(Line, bool), ReadError>
+    requires { NotFirst (t.Sign sg.Assign) tokens.now }
+    ensures { GivesLine (t.Name word.now ∷ tokens.now) result }
+{
+    if is_skip(word, tokens) {
+        Ok((Line::SkipFaults, false))
+    } else {
+        Err(ReadError::NotSpelled)
+    }
+}
+
+/// Reads what follows the name that comes first.
+fn name_line(
+    alloc: Global,
+    word: &Piece<'_>,
+    tokens: &[Token<'_>],
+) -> Result<(Line, bool), ReadError>
+    ensures { GivesLine (t.Name word.now ∷ tokens.now) result }
+{
+    match eat(Sign::Assign, tokens) {
+        Some(rest) => set(alloc, word, rest),
+        None => skip_line(word, tokens),
+    }
+}
+
 /// Reads what follows `if`.
 fn if_line(alloc: Global, tokens: &[Token<'_>]) -> Result<(Line, bool), ReadError>
-    ensures { Gives (Tells (LineOf (t.Keyword Keyword.If ∷ tokens.now))) (λ p. p) result }
+    ensures { GivesLine (t.Keyword Keyword.If ∷ tokens.now) result }
 {
     let (expr, wide) = whole_expr(alloc, tokens)?;
     Ok((Line::If(expr), wide))
@@ -82,7 +104,7 @@ fn if_line(alloc: Global, tokens: &[Token<'_>]) -> Result<(Line, bool), ReadErro
 
 /// Reads what follows `elseif`.
 fn elseif_line(alloc: Global, tokens: &[Token<'_>]) -> Result<(Line, bool), ReadError>
-    ensures { Gives (Tells (LineOf (t.Keyword Keyword.ElseIf ∷ tokens.now))) (λ p. p) result }
+    ensures { GivesLine (t.Keyword Keyword.ElseIf ∷ tokens.now) result }
 {
     let (expr, wide) = whole_expr(alloc, tokens)?;
     Ok((Line::ElseIf(expr), wide))
@@ -90,7 +112,7 @@ fn elseif_line(alloc: Global, tokens: &[Token<'_>]) -> Result<(Line, bool), Read
 
 /// Reads what follows `@keep`.
 fn keep(alloc: Global, tokens: &[Token<'_>]) -> Result<(Line, bool), ReadError>
-    ensures { Gives (Tells (LineOf (t.At at.Keep ∷ tokens.now))) (λ p. p) result }
+    ensures { GivesLine (t.At at.Keep ∷ tokens.now) result }
 {
     let Some((word, rest)) = assigned(tokens) else {
         return Err(ReadError::NotSpelled);
@@ -102,7 +124,7 @@ fn keep(alloc: Global, tokens: &[Token<'_>]) -> Result<(Line, bool), ReadError>
 
 /// Reads what follows `+=`: the tower is a sum.
 fn add(alloc: Global, word: &Piece<'_>, tokens: &[Token<'_>]) -> Result<(Line, bool), ReadError>
-    ensures { Gives (Tells (LineOf (t.At at.Reduce ∷ t.Name word.now ∷ t.Sign sg.PlusAssign ∷ tokens.now))) (λ p. p) result }
+    ensures { GivesLine (reducing word.now sg.PlusAssign tokens.now) result }
 {
     let (expr, wide) = whole_expr(alloc, tokens)?;
     let name = text(alloc, word)?;
@@ -121,7 +143,7 @@ fn no_start(
     rest: &[Token<'_>],
 ) -> Result<(Line, bool), ReadError>
     requires { NotFirst (t.Keyword Keyword.From) rest.now }
-    ensures { GivesReduced word.now tower wide rest.now (λ p. p) result }
+    ensures { GivesReduced word.now tower wide rest.now result }
 {
     if is_end(rest) {
         let name = text(alloc, word)?;
@@ -140,7 +162,7 @@ fn start_value(
     wide: bool,
     rest: &[Token<'_>],
 ) -> Result<(Line, bool), ReadError>
-    ensures { GivesReduced word.now tower wide (t.Keyword Keyword.From ∷ rest.now) (λ p. p) result }
+    ensures { GivesReduced word.now tower wide (t.Keyword Keyword.From ∷ rest.now) result }
 {
     let (value, also) = whole_literal(alloc, rest)?;
     let any_wide = either(wide, also);
@@ -151,7 +173,7 @@ fn start_value(
 
 /// Reads what follows the `=` of an `@reduce` line.
 fn fed(alloc: Global, word: &Piece<'_>, tokens: &[Token<'_>]) -> Result<(Line, bool), ReadError>
-    ensures { Gives (Tells (LineOf (t.At at.Reduce ∷ t.Name word.now ∷ t.Sign sg.Assign ∷ tokens.now))) (λ p. p) result }
+    ensures { GivesLine (reducing word.now sg.Assign tokens.now) result }
 {
     let (found, wide, rest) = tower(alloc, tokens)?;
     match eat_word(Keyword::From, rest) {
@@ -167,7 +189,7 @@ fn fed_line(
     tokens: &[Token<'_>],
 ) -> Result<(Line, bool), ReadError>
     requires { NotFirst (t.Sign sg.PlusAssign) tokens.now }
-    ensures { Gives (Tells (LineOf (t.At at.Reduce ∷ t.Name word.now ∷ tokens.now))) (λ p. p) result }
+    ensures { GivesLine (t.At at.Reduce ∷ t.Name word.now ∷ tokens.now) result }
 {
     let Some(rest) = eat(Sign::Assign, tokens) else {
         return Err(ReadError::NotSpelled);
@@ -177,7 +199,7 @@ fn fed_line(
 
 /// Reads what follows `@reduce`.
 fn reduce(alloc: Global, tokens: &[Token<'_>]) -> Result<(Line, bool), ReadError>
-    ensures { Gives (Tells (LineOf (t.At at.Reduce ∷ tokens.now))) (λ p. p) result }
+    ensures { GivesLine (t.At at.Reduce ∷ tokens.now) result }
 {
     let Some((word, rest)) = eat_name(tokens) else {
         return Err(ReadError::NotSpelled);
@@ -190,7 +212,7 @@ fn reduce(alloc: Global, tokens: &[Token<'_>]) -> Result<(Line, bool), ReadError
 
 /// Reads what follows `print`.
 fn print(alloc: Global, tokens: &[Token<'_>]) -> Result<(Line, bool), ReadError>
-    ensures { Gives (Tells (LineOf (t.Keyword Keyword.Print ∷ tokens.now))) (λ p. p) result }
+    ensures { GivesLine (t.Keyword Keyword.Print ∷ tokens.now) result }
 {
     let Some((word, rest)) = eat_name(tokens) else {
         return Err(ReadError::NotSpelled);
@@ -205,7 +227,7 @@ fn print(alloc: Global, tokens: &[Token<'_>]) -> Result<(Line, bool), ReadError>
 
 /// Ends a line that is one word.
 fn else_line(tokens: &[Token<'_>]) -> Result<(Line, bool), ReadError>
-    ensures { Gives (Tells (LineOf (t.Keyword Keyword.Else ∷ tokens.now))) (λ p. p) result }
+    ensures { GivesLine (t.Keyword Keyword.Else ∷ tokens.now) result }
 {
     if is_end(tokens) {
         Ok((Line::Else, false))
@@ -215,7 +237,7 @@ fn else_line(tokens: &[Token<'_>]) -> Result<(Line, bool), ReadError>
 }
 
 fn continue_line(tokens: &[Token<'_>]) -> Result<(Line, bool), ReadError>
-    ensures { Gives (Tells (LineOf (t.Keyword Keyword.Continue ∷ tokens.now))) (λ p. p) result }
+    ensures { GivesLine (t.Keyword Keyword.Continue ∷ tokens.now) result }
 {
     if is_end(tokens) {
         Ok((Line::Continue, false))
@@ -225,7 +247,7 @@ fn continue_line(tokens: &[Token<'_>]) -> Result<(Line, bool), ReadError>
 }
 
 fn break_line(tokens: &[Token<'_>]) -> Result<(Line, bool), ReadError>
-    ensures { Gives (Tells (LineOf (t.Keyword Keyword.Break ∷ tokens.now))) (λ p. p) result }
+    ensures { GivesLine (t.Keyword Keyword.Break ∷ tokens.now) result }
 {
     if is_end(tokens) {
         Ok((Line::Break, false))
@@ -235,7 +257,7 @@ fn break_line(tokens: &[Token<'_>]) -> Result<(Line, bool), ReadError>
 }
 
 fn end_line(tokens: &[Token<'_>]) -> Result<(Line, bool), ReadError>
-    ensures { Gives (Tells (LineOf (t.Keyword Keyword.End ∷ tokens.now))) (λ p. p) result }
+    ensures { GivesLine (t.Keyword Keyword.End ∷ tokens.now) result }
 {
     if is_end(tokens) {
         Ok((Line::End, false))
@@ -246,7 +268,7 @@ fn end_line(tokens: &[Token<'_>]) -> Result<(Line, bool), ReadError>
 
 /// Reads what follows the reserved word that comes first.
 fn word_line(alloc: Global, word: Keyword, tokens: &[Token<'_>]) -> Result<(Line, bool), ReadError>
-    ensures { Gives (Tells (LineOf (t.Keyword word ∷ tokens.now))) (λ p. p) result }
+    ensures { GivesLine (t.Keyword word ∷ tokens.now) result }
 {
     match word {
         Keyword::Var => var(alloc, tokens),
@@ -265,7 +287,7 @@ fn word_line(alloc: Global, word: Keyword, tokens: &[Token<'_>]) -> Result<(Line
 
 /// Reads what follows the at-word that comes first.
 fn at_line(alloc: Global, word: AtWord, tokens: &[Token<'_>]) -> Result<(Line, bool), ReadError>
-    ensures { Gives (Tells (LineOf (t.At word ∷ tokens.now))) (λ p. p) result }
+    ensures { GivesLine (t.At word ∷ tokens.now) result }
 {
     match word {
         AtWord::Init => init(alloc, tokens),
@@ -276,7 +298,7 @@ fn at_line(alloc: Global, word: AtWord, tokens: &[Token<'_>]) -> Result<(Line, b
 
 /// Reads the line that all the tokens spell, and whether some number in it is too wide (it then has 0 in its place).
 pub(crate) fn form(alloc: Global, tokens: &[Token<'_>]) -> Result<(Line, bool), ReadError>
-    ensures { Gives (Tells (LineOf tokens.now)) (λ p. p) result }
+    ensures { GivesLine tokens.now result }
 {
     let Some((first, rest)) = split(tokens) else {
         return Err(ReadError::NotSpelled);
@@ -284,7 +306,7 @@ pub(crate) fn form(alloc: Global, tokens: &[Token<'_>]) -> Result<(Line, bool), 
     match first {
         Token::Keyword(word) => word_line(alloc, *word, rest),
         Token::At(word) => at_line(alloc, *word, rest),
-        Token::Name(word) => set(alloc, word, rest),
+        Token::Name(word) => name_line(alloc, word, rest),
         Token::Number(_) | Token::Text(_) | Token::Sign(_) => Err(ReadError::NotSpelled),
     }
 }

@@ -6,7 +6,7 @@ ghost use Rattle.loop_tokens.specs.declared.sign.Sign.TheVariants as sg;
 ghost use Rattle.loop_exprs.specs.Reading.{Gives};
 ghost use Rattle.loop_grammar.specs.LineForms.{SpellsTower, leaf_kind};
 ghost use Rattle.loop_heads.specs.Claims.{GaveEach};
-ghost use Rattle.loop_lines.specs.Claims.{Tells, TowerAt, TowerUpTo, OneTower};
+ghost use Rattle.loop_lines.specs.Claims.{Tells, TowerAt, TowerUpTo, GivesTower, OneTower};
 
 use crate::front::call;
 use crate::parts::expr_up_to;
@@ -44,7 +44,7 @@ fn leaf<'t, 'a>(
     tokens: &'t [Token<'a>],
 ) -> Result<(TowerExpr, bool, &'t [Token<'a>]), ReadError>
     requires { leaf_kind word ≡ Some kind }
-    ensures reads { Gives (Tells (TowerAt (t.Keyword word ∷ t.Sign sg.Open ∷ tokens.now))) (λ p. (p.0, p.1, p.2.now)) result }
+    ensures reads { GivesTower (t.Keyword word ∷ t.Sign sg.Open ∷ tokens.now) result }
     ensures shorter { IfOk result (λ p. length p.2.now < length tokens.now) }
 {
     let (expr, wide, rest) = expr_up_to(alloc, Sign::Close, tokens)?;
@@ -53,7 +53,7 @@ fn leaf<'t, 'a>(
 
 /// Reads what follows `count(`.
 fn count<'t, 'a>(tokens: &'t [Token<'a>]) -> Result<(TowerExpr, bool, &'t [Token<'a>]), ReadError>
-    ensures reads { Gives (Tells (TowerAt (t.Keyword Keyword.Count ∷ t.Sign sg.Open ∷ tokens.now))) (λ p. (p.0, p.1, p.2.now)) result }
+    ensures reads { GivesTower (t.Keyword Keyword.Count ∷ t.Sign sg.Open ∷ tokens.now) result }
     ensures shorter { IfOk result (λ p. length p.2.now < length tokens.now) }
 {
     match eat(Sign::Close, tokens) {
@@ -94,7 +94,7 @@ pub(crate) fn tower<'t, 'a>(
     alloc: Global,
     tokens: &'t [Token<'a>],
 ) -> Result<(TowerExpr, bool, &'t [Token<'a>]), ReadError>
-    ensures reads { Gives (Tells (TowerAt tokens.now)) (λ p. (p.0, p.1, p.2.now)) result }
+    ensures reads { GivesTower tokens.now result }
     ensures shorter { IfOk result (λ p. length p.2.now < length tokens.now) }
 {
     let Some((word, rest)) = call(tokens) else {
@@ -134,7 +134,7 @@ fn group<'t, 'a>(
     alloc: Global,
     tokens: &'t [Token<'a>],
 ) -> Result<(TowerExpr, bool, &'t [Token<'a>]), ReadError>
-    ensures reads { Gives (Tells (TowerAt (t.Keyword Keyword.Group ∷ t.Sign sg.Open ∷ tokens.now))) (λ p. (p.0, p.1, p.2.now)) result }
+    ensures reads { GivesTower (t.Keyword Keyword.Group ∷ t.Sign sg.Open ∷ tokens.now) result }
     ensures shorter { IfOk result (λ p. length p.2.now < length tokens.now) }
 {
     let (key, wide, rest) = expr_up_to(alloc, Sign::Comma, tokens)?;
@@ -150,7 +150,7 @@ fn both<'t, 'a>(
     alloc: Global,
     tokens: &'t [Token<'a>],
 ) -> Result<(TowerExpr, bool, &'t [Token<'a>]), ReadError>
-    ensures reads { Gives (Tells (TowerAt (t.Keyword Keyword.Both ∷ t.Sign sg.Open ∷ tokens.now))) (λ p. (p.0, p.1, p.2.now)) result }
+    ensures reads { GivesTower (t.Keyword Keyword.Both ∷ t.Sign sg.Open ∷ tokens.now) result }
     ensures shorter { IfOk result (λ p. length p.2.now < length tokens.now) }
 {
     let (left, wide, rest) = tower_up_to(alloc, Sign::Comma, tokens)?;

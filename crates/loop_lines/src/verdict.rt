@@ -4,7 +4,7 @@ ghost use Rattle.std.specs.Prelude.{◌≡◌, ◌≢◌, ◌<◌, ◌≤◌, tr
 ghost use Rattle.loop_tokens.specs.Limits.{is_too_deep};
 ghost use Rattle.loop_grammar.specs.LineForms.{groups_in, line_groups};
 ghost use Rattle.loop_grammar.specs.Texts.{TokensSay, most_groups};
-ghost use Rattle.loop_lines.specs.Verdicts.{said, refusal_of, IsRefusal, IsVerdict, IsFault, unless, OneVerdict, OneSaying};
+ghost use Rattle.loop_lines.specs.Verdicts.{said, refusal_of, IsLineRefusal, IsVerdict, IsOwnRefusal, unless, OneVerdict, OneSaying};
 
 use crate::forms::form;
 use crate::front::is_end;
@@ -40,7 +40,7 @@ fn nests_at_most(tower: &TowerExpr, left: u32) -> bool
 
 /// Whether the line nests no more groups than it may.
 fn groups_fit(line: &Line) -> bool
-    ensures { MatchBool result (line_groups line.now ≤ most_groups) (most_groups < line_groups line.now) }
+    ensures { let n = line_groups line.now in MatchBool result (n ≤ most_groups) (most_groups < n) }
 {
     match line {
         Line::Reduce { tower, .. } => nests_at_most(tower, MOST_GROUPS),
@@ -49,8 +49,8 @@ fn groups_fit(line: &Line) -> bool
 }
 
 /// Why the line is refused that the tokens spell, `wide` telling whether some number in it is too wide.
-fn fault_of(number: u32, line: &Line, wide: bool) -> Option<SyntaxRefusal>
-    ensures { IsFault number line.now wide result }
+fn own_refusal(number: u32, line: &Line, wide: bool) -> Option<SyntaxRefusal>
+    ensures { IsOwnRefusal number line.now wide result }
 {
     if groups_fit(line) {
         if wide {
@@ -63,11 +63,11 @@ fn fault_of(number: u32, line: &Line, wide: bool) -> Option<SyntaxRefusal>
     }
 }
 
-/// The value, unless there is a fault.
-fn unless<T: Drop>(fault: Option<SyntaxRefusal>, value: T) -> Result<T, SyntaxRefusal>
-    ensures { result ≡ unless fault value }
+/// The value, unless there is a refusal.
+fn unless<T: Drop>(refusal: Option<SyntaxRefusal>, value: T) -> Result<T, SyntaxRefusal>
+    ensures { result ≡ unless refusal value }
 {
-    match fault {
+    match refusal {
         Some(refusal) => Err(refusal),
         None => Ok(value),
     }
@@ -97,8 +97,8 @@ fn whole_line(
     }
     match form(alloc, tokens) {
         Ok((found, wide)) => {
-            let fault = fault_of(number, &found, wide);
-            unless(fault, Some(found))
+            let refusal = own_refusal(number, &found, wide);
+            unless(refusal, Some(found))
         }
         Err(error) => Err(refusal_of(error, number)),
     }
@@ -133,7 +133,7 @@ pub fn read_line(
     line: &LineTokens<'_>,
 ) -> Result<Option<Line>, SyntaxRefusal>
     ensures says { IfOk result (λ x. TokensSay line.now.tokens.items line.now.whole (said x)) }
-    ensures refuses { IfErr result (λ e. e ≢ SyntaxRefusal.NoMemory → IsRefusal line.now.tokens.items line.now.whole number e) }
+    ensures refuses { IfErr result (λ e. e ≢ SyntaxRefusal.NoMemory → IsLineRefusal line.now number e) }
 {
     verdict(alloc, number, line.tokens.as_slice(), line.whole)
 }

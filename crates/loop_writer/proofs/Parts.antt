@@ -7,7 +7,7 @@ use Rattle.loop_grammar.specs.declared.line.Line.TheVariants as l
 use Rattle.loop_grammar.specs.declared.tree.ProgramTree.{ProgramTree}
 use Rattle.loop_layout.specs.Rows.{rows_text}
 use Rattle.loop_writer.specs.declared.rows.Rows.{Rows}
-use Rattle.loop_writer.specs.Programs.{placed_at, row_of, branches_lines, else_lines, statement_lines, branch_lines, block_lines, var_line, init_line, print_line, for_line, placed, canonical_text}
+use Rattle.loop_writer.specs.Programs.{placed_at, row_of, branches_lines, else_lines, statement_lines, branch_lines, block_lines, skip_lines, var_line, init_line, print_line, for_line, placed, canonical_text}
 use Rattle.loop_writer.specs.Writing.{Wrote}
 use Rattle.loop_writer.proofs.Writes.{wrote_more}
 use Rattle.loop_writer.proofs.Placing.{else_there, lines-If, lines-Continue, lines-Break}
@@ -32,11 +32,13 @@ continue_written x n d a b is p = subst (Wrote a b) (lines-Continue n d ∙ ap (
 pub break_written : (x : Statement) (n d : ℕ) (a b : Rows) → x ≡ s.Break n → Wrote a b (placed_at d n l.Break ∷ []) → Wrote a b (statement_lines x d)
 break_written x n d a b is p = subst (Wrote a b) (lines-Break n d ∙ ap (λ (y : Statement). statement_lines y d) (sym is)) p
 
-pub tree_written : (p : ProgramTree) (start a b c d e last : Rows) → start.text.items ≡ [] → start.next ≡ 1 → Wrote start a (map var_line p.vars) → Wrote a b (for_line p.head ∷ []) →
+pub tree_written : (p : ProgramTree) (start k a b c d e last : Rows) → start.text.items ≡ [] → start.next ≡ 1 → Wrote start k (skip_lines p.skip_line) → Wrote k a (map var_line p.vars) → Wrote a b (for_line p.head ∷ []) →
     Wrote b c (map init_line p.scratch) → Wrote c d (block_lines p.body 1) → Wrote d e (placed_at 0 p.head.end_line l.End ∷ []) → Wrote e last (map print_line p.prints) → last.text.items ≡ canonical_text p
-tree_written p start a b c d e last empty first vars head inits body end prints =
-    let opened = map var_line p.vars ++ for_line p.head ∷ map init_line p.scratch in
-    let one = wrote_more start a c (map var_line p.vars) (for_line p.head ∷ map init_line p.scratch) vars (wrote_more a b c (for_line p.head ∷ []) (map init_line p.scratch) head inits) in
+tree_written p start k a b c d e last empty first skip vars head inits body end prints =
+    let front = skip_lines p.skip_line ++ map var_line p.vars in
+    let opened = front ++ for_line p.head ∷ map init_line p.scratch in
+    let before = wrote_more start k a (skip_lines p.skip_line) (map var_line p.vars) skip vars in
+    let one = wrote_more start a c front (for_line p.head ∷ map init_line p.scratch) before (wrote_more a b c (for_line p.head ∷ []) (map init_line p.scratch) head inits) in
     let two = wrote_more start c d opened (block_lines p.body 1) one body in
     let closed = placed_at 0 p.head.end_line l.End ∷ map print_line p.prints in
     let all = wrote_more start d last (opened ++ block_lines p.body 1) closed two (wrote_more d e last (placed_at 0 p.head.end_line l.End ∷ []) (map print_line p.prints) end prints) in

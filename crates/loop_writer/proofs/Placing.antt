@@ -13,8 +13,8 @@ use Rattle.loop_grammar.specs.declared.line.Line.{Line}
 use Rattle.loop_grammar.specs.declared.line.Line.TheVariants as l
 use Rattle.loop_grammar.specs.declared.line.NumberedLine.{NumberedLine}
 use Rattle.loop_grammar.specs.declared.tree.ProgramTree.{ProgramTree}
-use Rattle.loop_grammar.specs.Nesting.{on, NestsStatement, NestsBlock, NestsParts, NestsVars, NestsInits, NestsPrints, Nests}
-use Rattle.loop_writer.specs.Programs.{Placed, placed_at, Lines, all_lines, branches_lines, else_lines, condition, statement_lines, branch_lines, block_lines, var_line, init_line, print_line, placed}
+use Rattle.loop_grammar.specs.Nesting.{on, NestsStatement, NestsBlock, NestsParts, NestsSkip, NestsVars, NestsInits, NestsPrints, Nests}
+use Rattle.loop_writer.specs.Programs.{Placed, placed_at, Lines, all_lines, branches_lines, else_lines, condition, statement_lines, branch_lines, block_lines, skip_lines, var_line, init_line, print_line, placed}
 
 -- a placed line with its number alone
 abbrev pub numbered : Placed → NumberedLine
@@ -142,6 +142,10 @@ mutual
 
 -- ---- the whole
 
+skip_flat : {skip : Option ℕ} {from rest : List NumberedLine} → NestsSkip skip from rest → AllNumbered from → Flat (skip_lines skip) from rest
+skip_flat NestsSkip.none h = record { same = refl; later = h }
+skip_flat NestsSkip.one h = record { same = refl; later = h.1 }
+
 vars_flat : {bs : List Binding} {from rest : List NumberedLine} → NestsVars bs from rest → AllNumbered from → Flat (map var_line bs) from rest
 vars_flat NestsVars.none h = record { same = refl; later = h }
 vars_flat (NestsVars.more {n = n} {name = name} {v = v} b) h =
@@ -161,17 +165,20 @@ prints_flat (NestsPrints.more {n = n} {name = name} b) =
     record { same = ap (λ (xs : List NumberedLine). on n (l.Print name) ∷ xs) k.same; later = tt }
 
 pub program_flat : {r : ℕ} {p : ProgramTree} {forms : List NumberedLine} → Nests r p forms → AllNumbered forms → forms ≡ map numbered (placed p)
-program_flat (Nests.program {n = n} {m = m} {vars = vars} {scratch = scratch} {h = heads} {body = body} {prints = prints} {ls = ls} {us = us} {vs = vs} {ws = ws} a b c e) h =
+program_flat (Nests.program {n = n} {m = m} {skip = skip} {vars = vars} {scratch = scratch} {h = heads} {body = body} {prints = prints} {ks = ks} {ls = ls} {us = us} {vs = vs} {ws = ws} s a b c e) h =
     let head = placed_at 0 n (l.For heads) in
     let last = placed_at 0 m l.End in
-    let i = vars_flat a h in
+    let front = skip_lines skip ++ map var_line vars in
+    let q = skip_flat s h in
+    let v = vars_flat a q.later in
+    let i = flat_append (skip_lines skip) (map var_line vars) ks ls (on n (l.For heads) ∷ us) q v in
     let for_ : Flat (head ∷ []) (on n (l.For heads) ∷ us) us = record { same = refl; later = i.later.1 } in
     let j = inits_flat b i.later.1 in
     let k = block_flat c 1 j.later in
     let ended : Flat (last ∷ []) (on m l.End ∷ ws) ws = record { same = refl; later = k.later.1 } in
     let o = prints_flat e in
-    let one = flat_append (map var_line vars) (head ∷ map init_line scratch) ls (on n (l.For heads) ∷ us) vs i (flat_append (head ∷ []) (map init_line scratch) (on n (l.For heads) ∷ us) us vs for_ j) in
-    let two = flat_append (map var_line vars ++ head ∷ map init_line scratch) (block_lines body 1) ls vs (on m l.End ∷ ws) one k in
-    let all = flat_append (map var_line vars ++ head ∷ map init_line scratch ++ block_lines body 1) (last ∷ map print_line prints) ls (on m l.End ∷ ws) [] two
+    let one = flat_append front (head ∷ map init_line scratch) ks (on n (l.For heads) ∷ us) vs i (flat_append (head ∷ []) (map init_line scratch) (on n (l.For heads) ∷ us) us vs for_ j) in
+    let two = flat_append (front ++ head ∷ map init_line scratch) (block_lines body 1) ks vs (on m l.End ∷ ws) one k in
+    let all = flat_append (front ++ head ∷ map init_line scratch ++ block_lines body 1) (last ∷ map print_line prints) ks (on m l.End ∷ ws) [] two
     (flat_append (last ∷ []) (map print_line prints) (on m l.End ∷ ws) ws [] ended o) in
-    all.same ∙ lay-all (map var_line vars ++ head ∷ map init_line scratch ++ block_lines body 1 ++ last ∷ map print_line prints)
+    all.same ∙ lay-all (front ++ head ∷ map init_line scratch ++ block_lines body 1 ++ last ∷ map print_line prints)

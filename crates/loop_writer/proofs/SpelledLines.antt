@@ -267,6 +267,7 @@ onto-for : (ps hs is : List Mark) → onto (ps ++ apart (tok.Keyword kw.In) ∷ 
 onto-for ps hs is = onto-append (ps ++ apart (tok.Keyword kw.In) ∷ hs) is [] ∙ onto-append ps (apart (tok.Keyword kw.In) ∷ hs) (onto is [])
 
 line_onto : {x : Line} {u : Bool} {ts : List Token} → SpellsLine x u ts → u ≡ false → SpellsLine x false (onto (line_marks x) [])
+line_onto (SpellsLine.skip_faults p q r) h = SpellsLine.skip_faults refl refl refl
 line_onto (SpellsLine.var d) h = SpellsLine.var (literal_spelled d h true [])
 line_onto (SpellsLine.init d) h = SpellsLine.init (literal_spelled d h true [])
 line_onto (SpellsLine.for_ {ns = ns} {xs = xs} {product = product} {u = u} {v = v} {hs = hs} few p d s) h =

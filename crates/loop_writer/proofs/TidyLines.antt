@@ -1,5 +1,6 @@
 -- What is written of a line is laid out well, within the limits of a line.
 use Rattle.std.proofs.Common.{◌≡◌, ℕ, ◌+◌, ◌≤◌, nat_lt, Bool, true, false, ◌||◌, List, [], ◌∷◌, ◌++◌, map, Option, Some, None, refl, ap, sym, ◌∙◌, subst, rules, arith}
+use Rattle.std.specs.Prelude.{codes}
 use lib.IntN.{ℤ}
 use Rattle.std.specs.List.{count_by}
 use Rattle.std.proofs.lemmas.Bool.Decides.{nat_tests}
@@ -411,7 +412,21 @@ reduced_tidy n SpellsTower.count h named r = plain_tower n tower.Count refl name
 reduced_tidy n (SpellsTower.grouped {key = key} {x = x} p t) h named r = plain_tower n (tower.Grouped key x) (search (rules, tower_lemmas)) named (tower_tidy (SpellsTower.grouped p t) h r)
 reduced_tidy n (SpellsTower.both {x = x} {y = y} s t) h named r = plain_tower n (tower.Both x y) (search (rules, tower_lemmas)) named (tower_tidy (SpellsTower.both s t) h r)
 
+named_sound : {n m : List ℕ} → n ≡ m → IsSound (tok.Name n) → IsSound (tok.Name m)
+named_sound e h = subst (λ z. IsSound (tok.Name z)) e h
+
 pub line_tidy : {x : Line} {u : Bool} {ts : List Token} → SpellsLine x u ts → u ≡ false → AllSound ts → TidyLine x ts
+line_tidy (SpellsLine.skip_faults p q i) h r =
+    let fault = named_sound q r.1.0 in
+    let skip = named_sound i r.1.1.0 in
+    record {
+      size = 3;
+      depth = 0;
+      tidy = begins 2 0 (tok.Name (codes "on")) (apart (tok.Name (codes "fault")) ∷ apart (tok.Name (codes "skip")) ∷ []) (named_sound p r.0) refl
+          (stands_more 1 0 (tok.Name (codes "fault")) (apart (tok.Name (codes "skip")) ∷ []) fault refl (stands_more 0 0 (tok.Name (codes "skip")) [] skip refl stands_none));
+      low = omega arith;
+      fewer = omega arith;
+    }
 line_tidy (SpellsLine.var {n = n} {v = v} d) h r = assigned_tidy (l.Var n v) (value_marks v) (tok.Keyword kw.Var) n refl (word_sound kw.Var) refl r.1.0 (literal_tidy d h r.1.1.1)
 line_tidy (SpellsLine.init {n = n} {v = v} d) h r = assigned_tidy (l.Init n v) (value_marks v) (tok.At at.Init) n refl (at_sound at.Init) refl r.1.0 (literal_tidy d h r.1.1.1)
 line_tidy (SpellsLine.for_ {ns = ns} {xs = xs} {product = product} {u = u} {v = v} {hs = hs} few p d s) h r =

@@ -1,6 +1,6 @@
 -- The canonical text of a program: its lines in order, each with its number and with how many blocks are open round it.
 -- Source: this project's language.
-use Rattle.std.specs.Prelude.{ℕ, ◌+◌, ◌==◌, Bool, true, false, List, [], ◌∷◌, ◌++◌, map, flat_map, if◌then◌else◌}
+use Rattle.std.specs.Prelude.{ℕ, ◌+◌, ◌==◌, Bool, true, false, List, [], ◌∷◌, ◌++◌, map, flat_map, Option, Some, None, if◌then◌else◌}
 use Rattle.loop_data.specs.declared.expr.Expr.{Expr}
 use Rattle.loop_data.specs.declared.statement.Statement.{Statement}
 use Rattle.loop_data.specs.declared.statement.Branch.{Branch}
@@ -83,9 +83,14 @@ print_line p = placed_at 0 p.line (l.Print p.name)
 abbrev pub for_line : HeadLine → Placed
 for_line h = placed_at 0 h.line (l.For (record { names = h.names; axes = h.axes; product = h.product; inner = h.inner }))
 
+-- the line `on fault skip`, where it stands
+abbrev pub skip_lines : Option ℕ → List Placed
+skip_lines None = []
+skip_lines (Some n) = placed_at 0 n l.SkipFaults ∷ []
+
 -- all lines of a program in order
 abbrev pub placed : ProgramTree → List Placed
-placed p = map var_line p.vars ++ for_line p.head ∷ map init_line p.scratch ++ block_lines p.body 1 ++ placed_at 0 p.head.end_line l.End ∷ map print_line p.prints
+placed p = skip_lines p.skip_line ++ map var_line p.vars ++ for_line p.head ∷ map init_line p.scratch ++ block_lines p.body 1 ++ placed_at 0 p.head.end_line l.End ∷ map print_line p.prints
 
 abbrev pub row_of : Placed → Row
 row_of p = record { line = p.line; bytes = line_text p.depth p.form }

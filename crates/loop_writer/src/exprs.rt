@@ -1,8 +1,9 @@
 //! Expressions.
 
 ghost use Rattle.std.specs.Prelude.{◌≡◌, [], ◌∷◌, ◌++◌, map, true, false, OnOk, if◌then◌else◌};
-ghost use Rattle.loop_layout.specs.Layout.{marks_text, token_text};
+ghost use Rattle.loop_layout.specs.Layout.{token_text};
 ghost use Rattle.loop_layout.specs.Canonical.{first, glued, comma, op_token, is_extreme, word_token, written_expr, expr_marks, in_parentheses, negated, parts_marks};
+ghost use Rattle.loop_writer.specs.Writing.{Writes};
 
 use crate::marks::{write_keyword, write_name, write_sign, write_token, write_value};
 use loop_data::{Expr, Op, Value, Word};
@@ -35,7 +36,7 @@ fn op_text(op: Op) -> &'static str
 }
 
 fn write_op(out: &mut Vec<u8>, op: Op, apart: bool) -> Result<(), NoMemory>
-    ensures { OnOk result (out.new.items ≡ out.old.items ++ marks_text (first apart (op_token op) ∷ [])) }
+    ensures { OnOk result (Writes out.old out.new (first apart (op_token op) ∷ [])) }
 {
     write_token(out, op_text(op), apart)
 }
@@ -59,14 +60,14 @@ fn word_text(word: Word) -> &'static str
 }
 
 fn write_word(out: &mut Vec<u8>, word: Word, apart: bool) -> Result<(), NoMemory>
-    ensures { OnOk result (out.new.items ≡ out.old.items ++ marks_text (first apart (word_token word) ∷ [])) }
+    ensures { OnOk result (Writes out.old out.new (first apart (word_token word) ∷ [])) }
 {
     write_token(out, word_text(word), apart)
 }
 
 /// A comma, but before the first of several things.
 pub(crate) fn write_comma(out: &mut Vec<u8>, follows: bool) -> Result<(), NoMemory>
-    ensures { OnOk result (out.new.items ≡ out.old.items ++ marks_text (if follows then glued comma ∷ [] else [])) }
+    ensures { OnOk result (Writes out.old out.new (if follows then glued comma ∷ [] else [])) }
 {
     if follows {
         write_sign(out, Sign::Comma, false)?;
@@ -76,7 +77,8 @@ pub(crate) fn write_comma(out: &mut Vec<u8>, follows: bool) -> Result<(), NoMemo
 
 /// Whether the expression stands in parentheses where it is a part of another one.
 fn is_operation(expr: &Expr) -> bool
-    ensures { (written_expr expr.now).part ≡ (if result then in_parentheses (expr_marks expr.now) else expr_marks expr.now) }
+    ensures { (written_expr expr.now).part ≡
+        (if result then in_parentheses (expr_marks expr.now) else expr_marks expr.now) }
 {
     match expr {
         Expr::Two { op, .. } => !is_extreme(*op),
@@ -97,7 +99,7 @@ fn is_int(expr: &Expr) -> bool
 /// An expression that is a whole place, with no parentheses round it.
 #[cycle(exprs)]
 pub(crate) fn write_expr(out: &mut Vec<u8>, expr: &Expr, apart: bool) -> Result<(), NoMemory>
-    ensures { OnOk result (out.new.items ≡ out.old.items ++ marks_text (expr_marks expr.now apart)) }
+    ensures { OnOk result (Writes out.old out.new (expr_marks expr.now apart)) }
 {
     match expr {
         Expr::Lit(value) => write_value(out, value, apart),
@@ -155,7 +157,7 @@ pub(crate) fn write_expr(out: &mut Vec<u8>, expr: &Expr, apart: bool) -> Result<
 /// An expression that is a part of another one, an operation in parentheses.
 #[cycle(exprs)]
 fn write_part(out: &mut Vec<u8>, expr: &Expr, apart: bool) -> Result<(), NoMemory>
-    ensures { OnOk result (out.new.items ≡ out.old.items ++ marks_text ((written_expr expr.now).part apart)) }
+    ensures { OnOk result (Writes out.old out.new ((written_expr expr.now).part apart)) }
 {
     if is_operation(expr) {
         write_sign(out, Sign::Open, apart)?;
@@ -169,7 +171,7 @@ fn write_part(out: &mut Vec<u8>, expr: &Expr, apart: bool) -> Result<(), NoMemor
 /// What stands behind unary minus, a number in parentheses.
 #[cycle(exprs)]
 fn write_negated(out: &mut Vec<u8>, expr: &Expr) -> Result<(), NoMemory>
-    ensures { OnOk result (out.new.items ≡ out.old.items ++ marks_text (negated (written_expr expr.now) false)) }
+    ensures { OnOk result (Writes out.old out.new (negated (written_expr expr.now) false)) }
 {
     if is_int(expr) {
         write_sign(out, Sign::Open, false)?;
@@ -183,7 +185,7 @@ fn write_negated(out: &mut Vec<u8>, expr: &Expr) -> Result<(), NoMemory>
 /// The parts of a tuple.
 #[cycle(exprs)]
 fn write_parts(out: &mut Vec<u8>, parts: &[Expr]) -> Result<(), NoMemory>
-    ensures { OnOk result (out.new.items ≡ out.old.items ++ marks_text (parts_marks (map written_expr parts.now))) }
+    ensures { OnOk result (Writes out.old out.new (parts_marks (map written_expr parts.now))) }
 {
     for (i, part) in parts.iter().enumerate() {
         write_comma(out, i > 0)?;

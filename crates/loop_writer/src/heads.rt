@@ -1,8 +1,8 @@
 //! Patterns, ranges, axes and heads.
 
 ghost use Rattle.std.specs.Prelude.{◌≡◌, [], ◌∷◌, ◌++◌, map, true, false, OnOk};
-ghost use Rattle.loop_layout.specs.Layout.{marks_text};
 ghost use Rattle.loop_layout.specs.Canonical.{step_marks, range_marks, listed, axis_marks, name_marks, pattern_marks, inner_marks, head_marks};
+ghost use Rattle.loop_writer.specs.Writing.{Writes};
 
 use crate::exprs::{write_comma, write_expr};
 use crate::marks::{write_keyword, write_name, write_sign, write_text};
@@ -11,7 +11,7 @@ use loop_tokens::{Keyword, Sign};
 use no_memory::NoMemory;
 
 fn write_step(out: &mut Vec<u8>, step: &Option<Expr>) -> Result<(), NoMemory>
-    ensures { OnOk result (out.new.items ≡ out.old.items ++ marks_text (step_marks step.now)) }
+    ensures { OnOk result (Writes out.old out.new (step_marks step.now)) }
 {
     match step {
         None => Ok(()),
@@ -23,7 +23,7 @@ fn write_step(out: &mut Vec<u8>, step: &Option<Expr>) -> Result<(), NoMemory>
 }
 
 fn write_range(out: &mut Vec<u8>, range: &RangeExpr, apart: bool) -> Result<(), NoMemory>
-    ensures { OnOk result (out.new.items ≡ out.old.items ++ marks_text (range_marks range.now apart)) }
+    ensures { OnOk result (Writes out.old out.new (range_marks range.now apart)) }
 {
     write_expr(out, &range.first, apart)?;
     write_step(out, &range.step)?;
@@ -33,7 +33,7 @@ fn write_range(out: &mut Vec<u8>, range: &RangeExpr, apart: bool) -> Result<(), 
 
 #[cycle(axes)]
 fn write_axis(out: &mut Vec<u8>, axis: &Axis, apart: bool) -> Result<(), NoMemory>
-    ensures { OnOk result (out.new.items ≡ out.old.items ++ marks_text (axis_marks axis.now apart)) }
+    ensures { OnOk result (Writes out.old out.new (axis_marks axis.now apart)) }
 {
     match axis {
         Axis::Steps(range) => write_range(out, range, apart),
@@ -54,7 +54,7 @@ fn write_axis(out: &mut Vec<u8>, axis: &Axis, apart: bool) -> Result<(), NoMemor
 
 #[cycle(axes)]
 fn write_axes(out: &mut Vec<u8>, axes: &[Axis], apart: bool) -> Result<(), NoMemory>
-    ensures { OnOk result (out.new.items ≡ out.old.items ++ marks_text (listed (map axis_marks axes.now) apart)) }
+    ensures { OnOk result (Writes out.old out.new (listed (map axis_marks axes.now) apart)) }
 {
     for (i, axis) in axes.iter().enumerate() {
         write_comma(out, i > 0)?;
@@ -65,7 +65,7 @@ fn write_axes(out: &mut Vec<u8>, axes: &[Axis], apart: bool) -> Result<(), NoMem
 
 /// The first head: an axis, or a product of several.
 fn write_head(out: &mut Vec<u8>, axes: &[Axis], product: bool) -> Result<(), NoMemory>
-    ensures { OnOk result (out.new.items ≡ out.old.items ++ marks_text (head_marks axes.now product true)) }
+    ensures { OnOk result (Writes out.old out.new (head_marks axes.now product true)) }
 {
     if product {
         write_keyword(out, Keyword::Product, true)?;
@@ -78,7 +78,7 @@ fn write_head(out: &mut Vec<u8>, axes: &[Axis], product: bool) -> Result<(), NoM
 }
 
 fn write_names(out: &mut Vec<u8>, names: &[TextValue]) -> Result<(), NoMemory>
-    ensures { OnOk result (out.new.items ≡ out.old.items ++ marks_text (listed (map name_marks names.now) false)) }
+    ensures { OnOk result (Writes out.old out.new (listed (map name_marks names.now) false)) }
 {
     for (i, name) in names.iter().enumerate() {
         write_comma(out, i > 0)?;
@@ -89,7 +89,7 @@ fn write_names(out: &mut Vec<u8>, names: &[TextValue]) -> Result<(), NoMemory>
 
 /// One name, or several in parentheses.
 pub(crate) fn write_pattern(out: &mut Vec<u8>, names: &[TextValue]) -> Result<(), NoMemory>
-    ensures { OnOk result (out.new.items ≡ out.old.items ++ marks_text (pattern_marks names.now true)) }
+    ensures { OnOk result (Writes out.old out.new (pattern_marks names.now true)) }
 {
     match names {
         [] => Ok(()),
@@ -103,7 +103,7 @@ pub(crate) fn write_pattern(out: &mut Vec<u8>, names: &[TextValue]) -> Result<()
 }
 
 fn write_inner(out: &mut Vec<u8>, head: &Inner) -> Result<(), NoMemory>
-    ensures { OnOk result (out.new.items ≡ out.old.items ++ marks_text (inner_marks (head.now ∷ []))) }
+    ensures { OnOk result (Writes out.old out.new (inner_marks (head.now ∷ []))) }
 {
     write_sign(out, Sign::Comma, false)?;
     write_name(out, head.name.as_str(), true)?;
@@ -112,7 +112,7 @@ fn write_inner(out: &mut Vec<u8>, head: &Inner) -> Result<(), NoMemory>
 }
 
 fn write_inners(out: &mut Vec<u8>, heads: &[Inner]) -> Result<(), NoMemory>
-    ensures { OnOk result (out.new.items ≡ out.old.items ++ marks_text (inner_marks heads.now)) }
+    ensures { OnOk result (Writes out.old out.new (inner_marks heads.now)) }
 {
     for head in heads {
         write_inner(out, head)?;
@@ -127,7 +127,8 @@ pub(crate) fn write_heads(
     product: bool,
     inner: &[Inner],
 ) -> Result<(), NoMemory>
-    ensures { OnOk result (out.new.items ≡ out.old.items ++ marks_text (head_marks axes.now product true ++ inner_marks inner.now)) }
+    ensures { OnOk result (
+        Writes out.old out.new (head_marks axes.now product true ++ inner_marks inner.now)) }
 {
     write_head(out, axes, product)?;
     write_inners(out, inner)

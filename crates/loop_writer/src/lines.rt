@@ -2,9 +2,9 @@
 
 ghost use Rattle.std.specs.Prelude.{◌≡◌, ◌++◌, OnOk};
 ghost use Rattle.loop_grammar.specs.declared.line.Line.TheVariants as l;
-ghost use Rattle.loop_layout.specs.Layout.{marks_text};
 ghost use Rattle.loop_layout.specs.Canonical.{line_marks};
 ghost use Rattle.loop_writer.specs.Programs.{condition, for_line};
+ghost use Rattle.loop_writer.specs.Writing.{Writes};
 
 use crate::exprs::write_expr;
 use crate::heads::{write_heads, write_pattern};
@@ -14,8 +14,16 @@ use loop_data::{Expr, HeadLine, TextValue, TowerExpr, Value};
 use loop_tokens::{AtWord, Keyword, Sign};
 use no_memory::NoMemory;
 
+pub(crate) fn write_on_fault_skip(out: &mut Vec<u8>) -> Result<(), NoMemory>
+    ensures { OnOk result (Writes out.old out.new (line_marks l.SkipFaults)) }
+{
+    write_name(out, "on", false)?;
+    write_name(out, "fault", true)?;
+    write_name(out, "skip", true)
+}
+
 pub(crate) fn write_var(out: &mut Vec<u8>, name: &TextValue, value: &Value) -> Result<(), NoMemory>
-    ensures { OnOk result (out.new.items ≡ out.old.items ++ marks_text (line_marks (l.Var name.now value.now))) }
+    ensures { OnOk result (Writes out.old out.new (line_marks (l.Var name.now value.now))) }
 {
     write_keyword(out, Keyword::Var, false)?;
     write_name(out, name.as_str(), true)?;
@@ -24,7 +32,7 @@ pub(crate) fn write_var(out: &mut Vec<u8>, name: &TextValue, value: &Value) -> R
 }
 
 pub(crate) fn write_init(out: &mut Vec<u8>, name: &TextValue, value: &Value) -> Result<(), NoMemory>
-    ensures { OnOk result (out.new.items ≡ out.old.items ++ marks_text (line_marks (l.Init name.now value.now))) }
+    ensures { OnOk result (Writes out.old out.new (line_marks (l.Init name.now value.now))) }
 {
     write_at_word(out, AtWord::Init, false)?;
     write_name(out, name.as_str(), true)?;
@@ -33,7 +41,7 @@ pub(crate) fn write_init(out: &mut Vec<u8>, name: &TextValue, value: &Value) -> 
 }
 
 pub(crate) fn write_for(out: &mut Vec<u8>, head: &HeadLine) -> Result<(), NoMemory>
-    ensures { OnOk result (out.new.items ≡ out.old.items ++ marks_text (line_marks (for_line head.now).form)) }
+    ensures { OnOk result (Writes out.old out.new (line_marks (for_line head.now).form)) }
 {
     write_keyword(out, Keyword::For, false)?;
     write_pattern(out, head.names.as_slice())?;
@@ -47,7 +55,7 @@ pub(crate) fn write_for(out: &mut Vec<u8>, head: &HeadLine) -> Result<(), NoMemo
 }
 
 pub(crate) fn write_let(out: &mut Vec<u8>, names: &[TextValue], expr: &Expr) -> Result<(), NoMemory>
-    ensures { OnOk result (out.new.items ≡ out.old.items ++ marks_text (line_marks (l.Let names.now expr.now))) }
+    ensures { OnOk result (Writes out.old out.new (line_marks (l.Let names.now expr.now))) }
 {
     write_keyword(out, Keyword::Let, false)?;
     write_pattern(out, names)?;
@@ -56,7 +64,7 @@ pub(crate) fn write_let(out: &mut Vec<u8>, names: &[TextValue], expr: &Expr) -> 
 }
 
 pub(crate) fn write_set(out: &mut Vec<u8>, name: &TextValue, expr: &Expr) -> Result<(), NoMemory>
-    ensures { OnOk result (out.new.items ≡ out.old.items ++ marks_text (line_marks (l.Set name.now expr.now))) }
+    ensures { OnOk result (Writes out.old out.new (line_marks (l.Set name.now expr.now))) }
 {
     write_name(out, name.as_str(), false)?;
     write_sign(out, Sign::Assign, true)?;
@@ -65,7 +73,7 @@ pub(crate) fn write_set(out: &mut Vec<u8>, name: &TextValue, expr: &Expr) -> Res
 
 /// An `if` line, or an `elseif` line.
 pub(crate) fn write_condition(out: &mut Vec<u8>, test: &Expr, first: bool) -> Result<(), NoMemory>
-    ensures { OnOk result (out.new.items ≡ out.old.items ++ marks_text (line_marks (condition first test.now))) }
+    ensures { OnOk result (Writes out.old out.new (line_marks (condition first test.now))) }
 {
     if first {
         write_keyword(out, Keyword::If, false)?;
@@ -77,7 +85,7 @@ pub(crate) fn write_condition(out: &mut Vec<u8>, test: &Expr, first: bool) -> Re
 }
 
 pub(crate) fn write_keep(out: &mut Vec<u8>, name: &TextValue, expr: &Expr) -> Result<(), NoMemory>
-    ensures { OnOk result (out.new.items ≡ out.old.items ++ marks_text (line_marks (l.Keep name.now expr.now))) }
+    ensures { OnOk result (Writes out.old out.new (line_marks (l.Keep name.now expr.now))) }
 {
     write_at_word(out, AtWord::Keep, false)?;
     write_name(out, name.as_str(), true)?;
@@ -91,7 +99,8 @@ pub(crate) fn write_reduce(
     tower: &TowerExpr,
     start: &Option<Value>,
 ) -> Result<(), NoMemory>
-    ensures { OnOk result (out.new.items ≡ out.old.items ++ marks_text (line_marks (l.Reduce name.now tower.now start.now))) }
+    ensures { OnOk result (
+        Writes out.old out.new (line_marks (l.Reduce name.now tower.now start.now))) }
 {
     write_at_word(out, AtWord::Reduce, false)?;
     write_name(out, name.as_str(), true)?;
@@ -99,7 +108,7 @@ pub(crate) fn write_reduce(
 }
 
 pub(crate) fn write_print(out: &mut Vec<u8>, name: &TextValue) -> Result<(), NoMemory>
-    ensures { OnOk result (out.new.items ≡ out.old.items ++ marks_text (line_marks (l.Print name.now))) }
+    ensures { OnOk result (Writes out.old out.new (line_marks (l.Print name.now))) }
 {
     write_keyword(out, Keyword::Print, false)?;
     write_name(out, name.as_str(), true)

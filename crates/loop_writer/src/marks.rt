@@ -3,8 +3,8 @@
 ghost use Rattle.std.specs.Prelude.{◌≡◌, [], ◌∷◌, ◌++◌, OnOk, if◌then◌else◌};
 ghost use Rattle.loop_tokens.specs.declared.token.Token.TheVariants as tok;
 ghost use Rattle.loop_tokens.specs.Literals.{escaped, escaped_byte};
-ghost use Rattle.loop_layout.specs.Layout.{marks_text};
 ghost use Rattle.loop_layout.specs.Canonical.{first, bool_word, int_marks, value_marks};
+ghost use Rattle.loop_writer.specs.Writing.{Writes};
 
 use itoa::Buffer;
 use loop_data::Value;
@@ -22,7 +22,8 @@ fn write_space(out: &mut Vec<u8>, apart: bool) -> Result<(), NoMemory>
 
 /// The characters of a token.
 pub(crate) fn write_token(out: &mut Vec<u8>, text: &str, apart: bool) -> Result<(), NoMemory>
-    ensures { OnOk result (out.new.items ≡ out.old.items ++ (if apart then 32 ∷ text.now else text.now)) }
+    ensures { OnOk result (
+        out.new.items ≡ out.old.items ++ (if apart then 32 ∷ text.now else text.now)) }
 {
     write_space(out, apart)?;
     out.extend_from_slice(text.as_bytes())?;
@@ -30,25 +31,25 @@ pub(crate) fn write_token(out: &mut Vec<u8>, text: &str, apart: bool) -> Result<
 }
 
 pub(crate) fn write_keyword(out: &mut Vec<u8>, word: Keyword, apart: bool) -> Result<(), NoMemory>
-    ensures { OnOk result (out.new.items ≡ out.old.items ++ marks_text (first apart (tok.Keyword word) ∷ [])) }
+    ensures { OnOk result (Writes out.old out.new (first apart (tok.Keyword word) ∷ [])) }
 {
     write_token(out, word.text(), apart)
 }
 
 pub(crate) fn write_at_word(out: &mut Vec<u8>, word: AtWord, apart: bool) -> Result<(), NoMemory>
-    ensures { OnOk result (out.new.items ≡ out.old.items ++ marks_text (first apart (tok.At word) ∷ [])) }
+    ensures { OnOk result (Writes out.old out.new (first apart (tok.At word) ∷ [])) }
 {
     write_token(out, word.text(), apart)
 }
 
 pub(crate) fn write_sign(out: &mut Vec<u8>, sign: Sign, apart: bool) -> Result<(), NoMemory>
-    ensures { OnOk result (out.new.items ≡ out.old.items ++ marks_text (first apart (tok.Sign sign) ∷ [])) }
+    ensures { OnOk result (Writes out.old out.new (first apart (tok.Sign sign) ∷ [])) }
 {
     write_token(out, sign.text(), apart)
 }
 
 pub(crate) fn write_name(out: &mut Vec<u8>, name: &str, apart: bool) -> Result<(), NoMemory>
-    ensures { OnOk result (out.new.items ≡ out.old.items ++ marks_text (first apart (tok.Name name.now) ∷ [])) }
+    ensures { OnOk result (Writes out.old out.new (first apart (tok.Name name.now) ∷ [])) }
 {
     write_token(out, name, apart)
 }
@@ -77,7 +78,8 @@ fn write_escaped(out: &mut Vec<u8>, text: &[u8]) -> Result<(), NoMemory>
 
 /// A text literal, with its quotes and escapes.
 pub(crate) fn write_text(out: &mut Vec<u8>, text: &str, apart: bool) -> Result<(), NoMemory>
-    ensures { OnOk result (out.new.items ≡ out.old.items ++ marks_text (first apart (tok.Text (escaped text.now)) ∷ [])) }
+    ensures { OnOk result (
+        Writes out.old out.new (first apart (tok.Text (escaped text.now)) ∷ [])) }
 {
     write_token(out, "\"", apart)?;
     write_escaped(out, text.as_bytes())?;
@@ -86,13 +88,13 @@ pub(crate) fn write_text(out: &mut Vec<u8>, text: &str, apart: bool) -> Result<(
 }
 
 fn write_int(out: &mut Vec<u8>, n: i64, apart: bool) -> Result<(), NoMemory>
-    ensures { OnOk result (out.new.items ≡ out.old.items ++ marks_text (int_marks n apart)) }
+    ensures { OnOk result (Writes out.old out.new (int_marks n apart)) }
 {
     write_token(out, Buffer::new().format(n), apart)
 }
 
 fn write_bool(out: &mut Vec<u8>, b: bool, apart: bool) -> Result<(), NoMemory>
-    ensures { OnOk result (out.new.items ≡ out.old.items ++ marks_text (first apart (tok.Keyword (bool_word b)) ∷ [])) }
+    ensures { OnOk result (Writes out.old out.new (first apart (tok.Keyword (bool_word b)) ∷ [])) }
 {
     if b {
         write_keyword(out, Keyword::True, apart)
@@ -103,7 +105,7 @@ fn write_bool(out: &mut Vec<u8>, b: bool, apart: bool) -> Result<(), NoMemory>
 
 /// A literal. Nothing is written of a value that is none.
 pub(crate) fn write_value(out: &mut Vec<u8>, value: &Value, apart: bool) -> Result<(), NoMemory>
-    ensures { OnOk result (out.new.items ≡ out.old.items ++ marks_text (value_marks value.now apart)) }
+    ensures { OnOk result (Writes out.old out.new (value_marks value.now apart)) }
 {
     match value {
         Value::Int(n) => write_int(out, *n, apart),

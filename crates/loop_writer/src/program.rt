@@ -3,14 +3,12 @@
 ghost use Rattle.std.specs.Prelude.{◌≡◌, [], ◌∷◌, ◌++◌, map, flat_map, true, false, IfOk, OnOk};
 ghost use Rattle.loop_grammar.specs.declared.line.Line.TheVariants as l;
 ghost use Rattle.loop_grammar.specs.declared.line.Line.{Line};
-ghost use Rattle.loop_tokens.specs.declared.token.Token.TheVariants as tok;
-ghost use Rattle.loop_layout.specs.Canonical.{glued, line_marks};
-ghost use Rattle.loop_writer.specs.Programs.{condition, placed_at, statement_lines, branch_lines, branches_lines, block_lines, else_lines, var_line, init_line, print_line, for_line, placed, canonical_text};
-ghost use Rattle.loop_writer.specs.Writing.{Wrote};
+ghost use Rattle.loop_writer.specs.Programs.{condition, statement_lines, branch_lines, branches_lines, block_lines, else_lines, skip_lines, var_line, init_line, print_line, for_line, placed, canonical_text};
+ghost use Rattle.loop_writer.specs.Writing.{Wrote, WroteLine, IsWord};
 
 use crate::lines::{
-    write_condition, write_for, write_init, write_keep, write_let, write_print, write_reduce,
-    write_set, write_var,
+    write_condition, write_for, write_init, write_keep, write_let, write_on_fault_skip,
+    write_print, write_reduce, write_set, write_var,
 };
 use crate::marks::write_keyword;
 use crate::rows::{Rows, deeper};
@@ -24,7 +22,8 @@ use std::alloc::Global;
 
 /// A line of one word.
 fn word_line(rows: &mut Rows, line: u32, depth: usize, word: Keyword) -> Result<(), NoMemory>
-    ensures { OnOk result ((form : Line) → line_marks form ≡ glued (tok.Keyword word) ∷ [] → Wrote rows.old rows.new (placed_at depth line form ∷ [])) }
+    ensures { OnOk result (
+        (form : Line) → IsWord form word → WroteLine rows.old rows.new depth line form) }
 {
     rows.begin(line, depth)?;
     write_keyword(&mut rows.text, word, false)?;
@@ -38,7 +37,7 @@ fn let_line(
     names: &[TextValue],
     expr: &Expr,
 ) -> Result<(), NoMemory>
-    ensures { OnOk result (Wrote rows.old rows.new (placed_at depth line (l.Let names.now expr.now) ∷ [])) }
+    ensures { OnOk result (WroteLine rows.old rows.new depth line (l.Let names.now expr.now)) }
 {
     rows.begin(line, depth)?;
     write_let(&mut rows.text, names, expr)?;
@@ -52,7 +51,7 @@ fn set_line(
     name: &TextValue,
     expr: &Expr,
 ) -> Result<(), NoMemory>
-    ensures { OnOk result (Wrote rows.old rows.new (placed_at depth line (l.Set name.now expr.now) ∷ [])) }
+    ensures { OnOk result (WroteLine rows.old rows.new depth line (l.Set name.now expr.now)) }
 {
     rows.begin(line, depth)?;
     write_set(&mut rows.text, name, expr)?;
@@ -66,7 +65,7 @@ fn keep_line(
     name: &TextValue,
     expr: &Expr,
 ) -> Result<(), NoMemory>
-    ensures { OnOk result (Wrote rows.old rows.new (placed_at depth line (l.Keep name.now expr.now) ∷ [])) }
+    ensures { OnOk result (WroteLine rows.old rows.new depth line (l.Keep name.now expr.now)) }
 {
     rows.begin(line, depth)?;
     write_keep(&mut rows.text, name, expr)?;
@@ -81,7 +80,8 @@ fn reduce_line(
     tower: &TowerExpr,
     start: &Option<Value>,
 ) -> Result<(), NoMemory>
-    ensures { OnOk result (Wrote rows.old rows.new (placed_at depth line (l.Reduce name.now tower.now start.now) ∷ [])) }
+    ensures { OnOk result (
+        WroteLine rows.old rows.new depth line (l.Reduce name.now tower.now start.now)) }
 {
     rows.begin(line, depth)?;
     write_reduce(&mut rows.text, name, tower, start)?;
@@ -96,7 +96,7 @@ fn condition_line(
     test: &Expr,
     first: bool,
 ) -> Result<(), NoMemory>
-    ensures { OnOk result (Wrote rows.old rows.new (placed_at depth line (condition first test.now) ∷ [])) }
+    ensures { OnOk result (WroteLine rows.old rows.new depth line (condition first test.now)) }
 {
     rows.begin(line, depth)?;
     write_condition(&mut rows.text, test, first)?;
@@ -156,7 +156,8 @@ fn write_branch(rows: &mut Rows, branch: &Branch, depth: usize, first: bool) -> 
 
 #[cycle(statements)]
 fn write_branches(rows: &mut Rows, branches: &[Branch], depth: usize) -> Result<(), NoMemory>
-    ensures { OnOk result (Wrote rows.old rows.new (branches_lines (map branch_lines branches.now) depth)) }
+    ensures { OnOk result (
+        Wrote rows.old rows.new (branches_lines (map branch_lines branches.now) depth)) }
 {
     for (i, branch) in branches.iter().enumerate() {
         write_branch(rows, branch, depth, i == 0)?;
@@ -167,13 +168,33 @@ fn write_branches(rows: &mut Rows, branches: &[Branch], depth: usize) -> Result<
 /// The `else` line with its block; where its line is 0 there is none.
 #[cycle(statements)]
 fn write_else(rows: &mut Rows, line: u32, block: &[Statement], depth: usize) -> Result<(), NoMemory>
-    ensures { OnOk result (Wrote rows.old rows.new (else_lines line (map statement_lines block.now) depth)) }
+    ensures { OnOk result (
+        Wrote rows.old rows.new (else_lines line (map statement_lines block.now) depth)) }
 {
     if line == 0 {
         return Ok(());
     }
     word_line(rows, line, depth, Keyword::Else)?;
     write_block(rows, block, deeper(depth)?)
+}
+
+/// The line `on fault skip`.
+fn skip_line(rows: &mut Rows, line: u32) -> Result<(), NoMemory>
+    ensures { OnOk result (WroteLine rows.old rows.new 0 line l.SkipFaults) }
+{
+    rows.begin(line, 0)?;
+    write_on_fault_skip(&mut rows.text)?;
+    rows.end()
+}
+
+/// The line `on fault skip`, where it stands.
+fn write_skip(rows: &mut Rows, line: Option<u32>) -> Result<(), NoMemory>
+    ensures { OnOk result (Wrote rows.old rows.new (skip_lines line)) }
+{
+    match line {
+        Some(line) => skip_line(rows, line),
+        None => Ok(()),
+    }
 }
 
 fn one_var(rows: &mut Rows, var: &Binding) -> Result<(), NoMemory>
@@ -242,6 +263,7 @@ pub fn write_tree(alloc: Global, program: &ProgramTree) -> Result<Vec<u8>, NoMem
     ensures { IfOk result (λ v. v.items ≡ canonical_text program.now) }
 {
     let mut rows = Rows::new(alloc);
+    write_skip(&mut rows, program.skip_line)?;
     write_vars(&mut rows, program.vars.as_slice())?;
     write_head(&mut rows, &program.head)?;
     write_scratch(&mut rows, program.scratch.as_slice())?;

@@ -3,8 +3,8 @@
 ghost use Rattle.std.specs.Prelude.{◌≡◌, ◌∷◌, ◌++◌, true, OnOk, MatchOption};
 ghost use Rattle.loop_tokens.specs.declared.token.Token.TheVariants as tok;
 ghost use Rattle.loop_tokens.specs.declared.sign.Sign.TheVariants as sg;
-ghost use Rattle.loop_layout.specs.Layout.{marks_text};
-ghost use Rattle.loop_layout.specs.Canonical.{apart, expr_marks, kind_word, tower_marks, start_marks, folded_marks};
+ghost use Rattle.loop_layout.specs.Canonical.{kind_word, tower_marks, start_marks, added_marks, assigned_marks, folded_marks};
+ghost use Rattle.loop_writer.specs.Writing.{Writes};
 
 use crate::exprs::write_expr;
 use crate::marks::{write_keyword, write_sign, write_value};
@@ -34,7 +34,7 @@ fn kind_word(kind: &Kind) -> Keyword
 }
 
 fn write_tower(out: &mut Vec<u8>, tower: &TowerExpr, apart: bool) -> Result<(), NoMemory>
-    ensures { OnOk result (out.new.items ≡ out.old.items ++ marks_text (tower_marks tower.now apart)) }
+    ensures { OnOk result (Writes out.old out.new (tower_marks tower.now apart)) }
 {
     match tower {
         TowerExpr::Leaf { kind, expr } => {
@@ -68,7 +68,7 @@ fn write_tower(out: &mut Vec<u8>, tower: &TowerExpr, apart: bool) -> Result<(), 
 }
 
 fn write_start(out: &mut Vec<u8>, start: &Option<Value>) -> Result<(), NoMemory>
-    ensures { OnOk result (out.new.items ≡ out.old.items ++ marks_text (start_marks start.now)) }
+    ensures { OnOk result (Writes out.old out.new (start_marks start.now)) }
 {
     match start {
         None => Ok(()),
@@ -85,7 +85,7 @@ fn write_started(
     tower: &TowerExpr,
     start: &Option<Value>,
 ) -> Result<(), NoMemory>
-    ensures { OnOk result (out.new.items ≡ out.old.items ++ marks_text (apart (tok.Sign sg.Assign) ∷ tower_marks tower.now true ++ start_marks start.now)) }
+    ensures { OnOk result (Writes out.old out.new (assigned_marks tower.now start.now)) }
 {
     write_sign(out, Sign::Assign, true)?;
     write_tower(out, tower, true)?;
@@ -94,7 +94,9 @@ fn write_started(
 
 /// The expression of a sum at the top without a start value, which is written with `+=`.
 fn added<'a>(tower: &'a TowerExpr, start: &Option<Value>) -> Option<&'a Expr>
-    ensures { MatchOption result (folded_marks tower.now start.now ≡ apart (tok.Sign sg.Assign) ∷ tower_marks tower.now true ++ start_marks start.now) (λ x. folded_marks tower.now start.now ≡ apart (tok.Sign sg.PlusAssign) ∷ expr_marks x.now true) }
+    ensures { MatchOption result
+        (folded_marks tower.now start.now ≡ assigned_marks tower.now start.now)
+        (λ x. folded_marks tower.now start.now ≡ added_marks x.now) }
 {
     match (tower, start) {
         (
@@ -114,7 +116,7 @@ pub(crate) fn write_folded(
     tower: &TowerExpr,
     start: &Option<Value>,
 ) -> Result<(), NoMemory>
-    ensures { OnOk result (out.new.items ≡ out.old.items ++ marks_text (folded_marks tower.now start.now)) }
+    ensures { OnOk result (Writes out.old out.new (folded_marks tower.now start.now)) }
 {
     match added(tower, start) {
         Some(expr) => {

@@ -11,4 +11,4 @@ pub returns-in-At : goal.returns-in-At
 returns-in-At c = rw (c.in-Some.ensures, c.in-At.is) c.at_line.ensures
 
 pub returns-in-Name : goal.returns-in-Name
-returns-in-Name c = rw (c.in-Some.ensures, c.in-Name.is) c.set.ensures
+returns-in-Name c = rw (c.in-Some.ensures, c.in-Name.is) c.name_line.ensures

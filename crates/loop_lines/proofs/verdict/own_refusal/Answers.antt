@@ -1,7 +1,7 @@
 use Rattle.std.proofs.Common.{refl}
 use Rattle.loop_grammar.specs.Texts.{too_deep, TokensSay}
 use Rattle.loop_lines.proofs.Verdicts.{too_wide_line, fine_line}
-use Rattle.loop_lines.proofs.verdict.fault_of.Goals as goal
+use Rattle.loop_lines.proofs.verdict.own_refusal.Goals as goal
 
 pub returns-else-groups_fit : goal.returns-else-groups_fit
 returns-else-groups_fit c = λ ts h d. (too_deep, TokensSay.groups h d (rw c.if-groups_fit.false at c.groups_fit.ensures), refl)
