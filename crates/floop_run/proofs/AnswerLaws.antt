@@ -5,7 +5,8 @@ use Rattle.std.proofs.lemmas.Bool.{cases_lt}
 use Rattle.edge_io.specs.Reading.{Held}
 use Rattle.loop_syntax.proofs.TextLaws.{one_program, one_refusal, never_both, never_neither}
 use Rattle.floop_run.specs.Words.{loop_name}
-use Rattle.floop_run.specs.Answers.{Answer, refused, not_held, words_answer, program_answer, syntax_text, loop_file_limit, IsTextAnswer, refused_text, read, IsFileAnswer, missing, too_long, within, IsNameAnswer, no_name, named, OneAnswer, SomeAnswer}
+use Rattle.loop_grammar.specs.RefusalTexts.{syntax_text}
+use Rattle.floop_run.specs.Answers.{Answer, refused, not_held, words_answer, program_answer, loop_file_limit, IsTextAnswer, refused_text, read, IsFileAnswer, missing, too_long, within, IsNameAnswer, no_name, named, OneAnswer, SomeAnswer}
 
 one_text : (text : List ℕ) (a b : Answer) → IsTextAnswer text a → IsTextAnswer text b → a ≡ b
 one_text text a b (refused_text f) (refused_text g) = ap (λ r. refused (syntax_text r)) (one_refusal text _ _ f g)

@@ -10,7 +10,7 @@ use Rattle.loop_values.specs.declared.stop.EvalStop.TheVariants as stop
 use Rattle.loop_results.specs.ResultTexts.{result_text}
 use Rattle.loop_grammar.specs.declared.tree.ProgramTree.{ProgramTree}
 use Rattle.loop_grammar.specs.declared.refusal.SyntaxRefusal.{SyntaxRefusal}
-use Rattle.loop_grammar.specs.declared.refusal.SyntaxRefusal.TheVariants as refusal
+use Rattle.loop_grammar.specs.RefusalTexts.{syntax_text}
 use Rattle.loop_grammar.specs.Texts.{SpellsProgram, FirstRefusal}
 use Rattle.floop_run.specs.BuiltForm.{Loop, loop_of}
 use Rattle.floop_run.specs.declared.status.Status.{Status}
@@ -65,15 +65,6 @@ built_answer (Some loop) = loop_answer loop
 
 abbrev pub program_answer : ProgramTree → Answer
 program_answer program = built_answer (loop_of program)
-
--- What a refusal of the loop file's text is called. Want of memory is none.
-abbrev pub syntax_text : SyntaxRefusal → List ℕ
-syntax_text (refusal.NotUtf8 n) = codes "byte " ++ decimal n ++ codes ": not UTF-8"
-syntax_text (refusal.NotALine n) = codes "line " ++ decimal n ++ codes ": not a line of the language"
-syntax_text (refusal.BadNesting n) = codes "line " ++ decimal n ++ codes ": bad nesting"
-syntax_text (refusal.TooDeep n) = codes "line " ++ decimal n ++ codes ": too deep"
-syntax_text (refusal.NumberTooWide n) = codes "line " ++ decimal n ++ codes ": number too wide"
-syntax_text refusal.NoMemory = []
 
 -- The answer for the text of a loop file, within the limit: its first refusal, or what its program gives.
 pub data IsTextAnswer : List ℕ → Answer → Type 0 where

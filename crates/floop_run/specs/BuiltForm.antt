@@ -142,9 +142,13 @@ checked head reduce print =
     if not (bytes_eq reduce.name head.0) && (bytes_eq print.name reduce.name && (is_numeric head.0 reduce.summand && nat_le (range_count head.1.0 (pos 1) head.1.1) item_limit))
     then Some (record { variable = head.0; first = head.1.0; last = head.1.1; line = reduce.line; reducer = reduce.name; summand = reduce.summand }) else None
 
+-- no line `on fault skip`, no outer variable and no scratch
+abbrev pub is_bare : ProgramTree → Bool
+is_bare p = is_none p.skip_line && (is_empty p.vars && is_empty p.scratch)
+
 -- the loop that a program is, if it is of the form that runs
 unfoldable pub loop_of : ProgramTree → Option Loop
-loop_of p = if is_empty p.vars && is_empty p.scratch then
+loop_of p = if is_bare p then
     then_ (head_of p.head) (λ head. then_ (only p.body) (λ x. then_ (reduce_of x) (λ reduce. then_ (only p.prints) (λ print. checked head reduce print)))) else None
 
 -- what such a loop keeps

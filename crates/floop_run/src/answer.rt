@@ -2,7 +2,8 @@ ghost use Rattle.std.specs.Prelude.{◌≡◌, ◌≢◌, ◌≤◌, None, Err, 
 ghost use Rattle.std.specs.FinMap.{get};
 ghost use Rattle.edge_io.specs.Faults.{Rose};
 ghost use Rattle.loop_grammar.specs.declared.refusal.SyntaxRefusal.TheVariants as syntax;
-ghost use Rattle.floop_run.specs.Answers.{IsAnswer, IsFileAnswer, IsTextAnswer, words_answer, not_held, program_answer, loop_answer, loop_file_limit, refused, syntax_text};
+ghost use Rattle.loop_grammar.specs.RefusalTexts.{syntax_text};
+ghost use Rattle.floop_run.specs.Answers.{IsAnswer, IsFileAnswer, IsTextAnswer, words_answer, not_held, program_answer, loop_answer, loop_file_limit, refused};
 ghost use Rattle.floop_run.specs.BuiltForm.{IsBuilt};
 ghost use Rattle.floop_run.specs.BuiltViews.{loop_seen};
 ghost use Rattle.floop_run.specs.TopCall.{texts, IsAnswered};
@@ -109,22 +110,14 @@ fn file_output(alloc: Global, bytes: &[u8]) -> Result<Output, NoMemory>
     }
 }
 
-/// What a refusal of the loop file's text is called.
+/// What a refusal of the loop file's text is called, which want of memory is not.
 fn syntax_text(alloc: Global, why: SyntaxRefusal) -> Result<String, NoMemory>
     ensures text { IfOk result (λ t. string_bytes t ≡ syntax_text why) }
     ensures memory { IfOk result (λ _. why ≢ syntax.NoMemory) }
 {
     match why {
-        SyntaxRefusal::NotUtf8 { byte } => Ok(format!(in alloc; "byte {byte}: not UTF-8")?),
-        SyntaxRefusal::NotALine { line } => {
-            Ok(format!(in alloc; "line {line}: not a line of the language")?)
-        }
-        SyntaxRefusal::BadNesting { line } => Ok(format!(in alloc; "line {line}: bad nesting")?),
-        SyntaxRefusal::TooDeep { line } => Ok(format!(in alloc; "line {line}: too deep")?),
-        SyntaxRefusal::NumberTooWide { line } => {
-            Ok(format!(in alloc; "line {line}: number too wide")?)
-        }
         SyntaxRefusal::NoMemory => Err(NoMemory),
+        _ => Ok(format!(in alloc; "{why}")?),
     }
 }
 

@@ -2,7 +2,7 @@
 
 ghost use Rattle.std.specs.Prelude.{◌≡◌, ◌≤◌, Option, IfSome};
 ghost use Rattle.std.specs.Option.{option_map, option_copied};
-ghost use Rattle.floop_run.specs.BuiltForm.{IsBuilt, loop_of, item_limit, is_empty, is_none, int_of, only, literal_of, bounds_of, axis_bounds, head_of, is_sum, summand_of, reduce_of, is_ring, is_numeric, checked};
+ghost use Rattle.floop_run.specs.BuiltForm.{IsBuilt, loop_of, item_limit, is_empty, is_none, int_of, only, literal_of, bounds_of, axis_bounds, head_of, is_sum, summand_of, reduce_of, is_ring, is_numeric, is_bare, checked};
 ghost use Rattle.floop_run.specs.BuiltViews.{loop_seen, reduce_seen};
 
 use loop_grammar::ProgramTree;
@@ -192,13 +192,20 @@ fn checked<'a>(
     }
 }
 
+/// Whether the program has no line `on fault skip`, no outer variable and no scratch.
+fn is_bare(program: &ProgramTree) -> bool
+    ensures { result ≡ is_bare program.now }
+{
+    program.skip_line.is_none() && program.vars.is_empty() && program.scratch.is_empty()
+}
+
 /// The loop that a program is, if it is of the form that runs.
 #[tactic(auto, unfolding(crate::specs::BuiltForm::loop_of))]
 pub fn loop_of(program: &ProgramTree) -> Option<BuiltLoop<'_>>
     ensures value { option_map loop_seen result ≡ loop_of program.now }
     ensures built { IfSome result (λ b. IsBuilt (loop_seen b)) }
 {
-    if program.vars.is_empty() && program.scratch.is_empty() {
+    if is_bare(program) {
         let (variable, bounds) = head_of(&program.head)?;
         let statement = only(&program.body)?;
         let reduce = reduce_of(statement)?;

@@ -10,17 +10,17 @@ use Rattle.loop_grammar.specs.declared.refusal.SyntaxRefusal.{SyntaxRefusal}
 use Rattle.loop_grammar.specs.declared.refusal.SyntaxRefusal.TheVariants as refusal
 use Rattle.loop_grammar.specs.Nesting.{on, NestingRefusal}
 use Rattle.loop_nesting.specs.Claims.{RefusesNesting}
-use Rattle.loop_grammar.specs.Texts.{Fault, blank, says, faulty, TokensSay, Says, AllSay, blank_line, line, FirstFault, here, after_blank, after_line, refusal_at}
+use Rattle.loop_grammar.specs.Texts.{LineRefusal, blank, says, refused, TokensSay, Says, AllSay, blank_line, line, FirstLineRefusal, here, after_blank, after_line, refusal_at}
 use Rattle.loop_lines.specs.Verdicts.{said, IsRefusal}
 use Rattle.loop_syntax.specs.Programs.{kept}
 
 -- Of the lines the first i say these forms: what the others say goes on with it, and the first refusal among the others is that of all.
 pub record Reading (lines : List (List ℕ)) (i : ℕ) (forms : List NumberedLine) : Type 0 where
   pub said : (more : List NumberedLine) → AllSay (i + 1) (drop i lines) more → AllSay 1 lines (forms ++ more)
-  pub fault : (r : SyntaxRefusal) → FirstFault (i + 1) (drop i lines) r → FirstFault 1 lines r
+  pub first_refusal : (r : SyntaxRefusal) → FirstLineRefusal (i + 1) (drop i lines) r → FirstLineRefusal 1 lines r
 
 pub begin : (lines : List (List ℕ)) → Reading lines 0 []
-begin lines = record { said = λ more a. a; fault = λ r f. f }
+begin lines = record { said = λ more a. a; first_refusal = λ r f. f }
 
 drop-all : {X : Type 0} (xs : List X) → drop (length xs) xs ≡ []
 drop-all [] = refl
@@ -51,17 +51,17 @@ module _ (lines : List (List ℕ)) (i : ℕ) (forms : List NumberedLine) (x : Li
   blank_step : Says x blank → Reading lines (i + 1) forms
   blank_step s = record {
     said = λ more a. r.said more (subst (λ ls. AllSay (i + 1) ls more) (sym next) (blank_line s a));
-    fault = λ q f. r.fault q (subst (λ ls. FirstFault (i + 1) ls q) (sym next) (after_blank s f));
+    first_refusal = λ q f. r.first_refusal q (subst (λ ls. FirstLineRefusal (i + 1) ls q) (sym next) (after_blank s f));
   }
 
   line_step : (form : Line) → Says x (says form) → Reading lines (i + 1) (forms ++ on (i + 1) form ∷ [])
   line_step form s = record {
     said = λ more a. subst (AllSay 1 lines) (sym (append_assoc forms (on (i + 1) form ∷ []) more)) (r.said (on (i + 1) form ∷ more) (subst (λ ls. AllSay (i + 1) ls (on (i + 1) form ∷ more)) (sym next) (line s a)));
-    fault = λ q f. r.fault q (subst (λ ls. FirstFault (i + 1) ls q) (sym next) (after_line s f));
+    first_refusal = λ q f. r.first_refusal q (subst (λ ls. FirstLineRefusal (i + 1) ls q) (sym next) (after_line s f));
   }
 
-  fault_step : (f : Fault) → Says x (faulty f) → FirstFault 1 lines (refusal_at f (i + 1))
-  fault_step f s = r.fault (refusal_at f (i + 1)) (subst (λ ls. FirstFault (i + 1) ls (refusal_at f (i + 1))) (sym next) (here s))
+  refusal_step : (f : LineRefusal) → Says x (refused f) → FirstLineRefusal 1 lines (refusal_at f (i + 1))
+  refusal_step f s = r.first_refusal (refusal_at f (i + 1)) (subst (λ ls. FirstLineRefusal (i + 1) ls (refusal_at f (i + 1))) (sym next) (here s))
 
   -- one line more, read as it is
   pub step_at : (n : ℕ) (now : List NumberedLine) (ts : List Token) (whole : Bool) (form : Option Line) → n ≡ i + 1 → now ≡ kept forms n form → Holds x ts whole → TokensSay ts whole (said form) → Reading lines (i + 1) now
@@ -69,10 +69,10 @@ module _ (lines : List (List ℕ)) (i : ℕ) (forms : List NumberedLine) (x : Li
   step_at n now ts whole (Some form) number is holds told =
       subst (Reading lines (i + 1)) (sym (is ∙ ap (λ m. forms ++ on m form ∷ []) number)) (line_step form (ts, whole, holds, told))
 
-  -- a line that is faulty by itself
-  pub fault_at : (all : List (List ℕ)) (n : ℕ) (ts : List Token) (whole : Bool) (q : SyntaxRefusal) → lines ≡ all → n ≡ i + 1 → Holds x ts whole → IsRefusal ts whole n q → FirstFault 1 all q
-  fault_at all n ts whole q same number holds found =
-      subst (FirstFault 1 all) (sym (found.2 ∙ ap (refusal_at found.0) number)) (subst (λ ls. FirstFault 1 ls (refusal_at found.0 (i + 1))) same (fault_step found.0 (ts, whole, holds, found.1)))
+  -- a line that is refused by itself
+  pub refused_at : (all : List (List ℕ)) (n : ℕ) (ts : List Token) (whole : Bool) (q : SyntaxRefusal) → lines ≡ all → n ≡ i + 1 → Holds x ts whole → IsRefusal ts whole n q → FirstLineRefusal 1 all q
+  refused_at all n ts whole q same number holds found =
+      subst (FirstLineRefusal 1 all) (sym (found.2 ∙ ap (refusal_at found.0) number)) (subst (λ ls. FirstLineRefusal 1 ls (refusal_at found.0 (i + 1))) same (refusal_step found.0 (ts, whole, holds, found.1)))
 
 -- a refusal that is passed on
 pub passed_on : {T : Type 0} (P : SyntaxRefusal → Type 0) (r : Result T SyntaxRefusal) (x y : SyntaxRefusal) → r ≡ Err x → x ≡ y → (y ≢ refusal.NoMemory → P y) → IfErr r (λ q. q ≢ refusal.NoMemory → P q)

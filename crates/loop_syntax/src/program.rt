@@ -1,6 +1,7 @@
 //! Programs.
 
 ghost use Rattle.std.specs.Prelude.{◌≡◌};
+ghost use Rattle.loop_grammar.specs.SkippedFaults.{skips_faults, skip_line};
 ghost use Rattle.loop_syntax.specs.Programs.{IsProgram};
 
 use loop_data::{Binding, HeadLine, Many, PrintLine, Statement};
@@ -42,6 +43,20 @@ impl Program {
         ensures spelled { IsProgram self.now }
     {
         &self.tree
+    }
+
+    /// Whether the program has the line `on fault skip`: an item that faults emits nothing then, and stops nothing.
+    pub fn skips_faults(&self) -> bool
+        ensures { result ≡ skips_faults self.now }
+    {
+        self.tree.skip_line.is_some()
+    }
+
+    /// The line on which `on fault skip` stands, from 1; 0 where there is none.
+    pub fn skip_line(&self) -> u32
+        ensures { result ≡ skip_line self.now }
+    {
+        self.tree.skip_line.unwrap_or(0)
     }
 
     /// The `var` lines, in order.

@@ -3,7 +3,7 @@
 ghost use Rattle.std.specs.Prelude.{◌≡◌, ◌≢◌, ◌≤◌, ◌+◌, length, map, IfOk, IfErr, OnOk};
 ghost use Rattle.loop_tokens.specs.Lines.{lines_of};
 ghost use Rattle.loop_grammar.specs.declared.refusal.SyntaxRefusal.TheVariants as refusal;
-ghost use Rattle.loop_grammar.specs.Texts.{AllSay, FirstFault, SpellsProgram, FirstRefusal};
+ghost use Rattle.loop_grammar.specs.Texts.{AllSay, FirstLineRefusal, SpellsProgram, FirstRefusal};
 ghost use Rattle.loop_syntax.specs.Programs.{most_bytes, kept};
 
 use crate::program::Program;
@@ -64,7 +64,8 @@ fn read_lines(alloc: Global, text: &str) -> Result<(VecDeque<NumberedLine>, u32)
     requires { length text.now ≤ most_bytes }
     ensures said { IfOk result (λ p. AllSay 1 (lines_of text.now) p.0.items) }
     ensures end { IfOk result (λ p. p.1 ≡ length (lines_of text.now) + 1) }
-    ensures faulty { IfErr result (λ r. r ≢ refusal.NoMemory → FirstFault 1 (lines_of text.now) r) }
+    ensures refused { IfErr result (λ r.
+        r ≢ refusal.NoMemory → FirstLineRefusal 1 (lines_of text.now) r) }
 {
     let lines = lines_in(alloc, text)?;
     let mut forms = VecDeque::new(alloc);

@@ -93,7 +93,11 @@ fn sums(rt: HostRuntime) -> Result<(), Fail> {
 
 #[test]
 fn programs_of_another_form(rt: HostRuntime) -> Result<(), Fail> {
-    let rows: [(&[u8], &[u8]); 14] = [
+    let rows: [(&[u8], &[u8]); 15] = [
+        (
+            b"on fault skip\nfor x in 1:10\n@reduce s += x\nend\nprint s\n",
+            NOT_BUILT,
+        ),
         (
             b"for x in 1:10\n@reduce s += x\nend\nprint s\nprint s\n",
             NOT_BUILT,

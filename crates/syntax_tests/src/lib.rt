@@ -13,6 +13,8 @@ mod nesting;
 #[cfg(test)]
 mod programs;
 #[cfg(test)]
+mod skips;
+#[cfg(test)]
 mod tokens;
 #[cfg(test)]
 mod writer;

@@ -31,7 +31,7 @@ fn front(alloc: Global, text: &str) -> Result<(TowerExpr, bool, usize), ReadErro
 }
 
 #[test]
-fn refuses_the_first_fault(rt: HostRuntime) {
+fn refuses_for_the_first_reason(rt: HostRuntime) {
     let not = Some(SyntaxRefusal::NotALine { line: 7 });
     let deep = Some(SyntaxRefusal::TooDeep { line: 7 });
     let wide = Some(SyntaxRefusal::NumberTooWide { line: 7 });

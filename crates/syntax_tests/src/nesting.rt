@@ -51,6 +51,7 @@ fn named(alloc: Global, sign: u8) -> Result<Line, NoMemory> {
 /// A line with no name of the form that the byte stands for.
 fn form(alloc: Global, sign: u8) -> Line {
     match sign {
+        b'o' => Line::SkipFaults,
         b'f' => Line::For(heads(alloc)),
         b'l' => Line::Let {
             names: Many::new(alloc),
@@ -112,9 +113,10 @@ fn mark(marks: &mut Vec<usize>, statement: &Statement) -> Result<(), NoMemory> {
 #[test]
 fn every_kind_of_nesting(rt: HostRuntime) -> Result<(), Fail> {
     let alloc = rt.alloc();
-    let program = read(alloc, "vvfii?l:sc|?k..rb.pp")?;
+    let program = read(alloc, "ovvfii?l:sc|?k..rb.pp")?;
+    assert_eq!(rt; program.skip_line, Some(1));
     assert_eq!(rt; program.vars.len(), 2);
-    assert_eq!(rt; (program.head.line, program.head.end_line), (3, 18));
+    assert_eq!(rt; (program.head.line, program.head.end_line), (4, 19));
     assert_eq!(rt; program.scratch.len(), 2);
     let mut marks = Vec::new(alloc);
     for statement in program.body.as_slice() {
@@ -131,7 +133,7 @@ fn every_kind_of_nesting(rt: HostRuntime) -> Result<(), Fail> {
     assert_eq!(rt;
         marks.as_slice(),
         [
-            6, 6, 1, 8, 2, 11, 1, 15, 12, 12, 1, 0, 0, 14, 16, 17, 19, 20
+            7, 7, 1, 9, 2, 12, 1, 16, 13, 13, 1, 0, 0, 15, 17, 18, 20, 21
         ]
         .as_slice()
     );
@@ -158,6 +160,12 @@ fn the_first_bad_line(rt: HostRuntime) {
         ("pf.", 1),
         ("f.f.", 3),
         ("f:.", 2),
+        ("o", 2),
+        ("oof.", 2),
+        ("vof.", 2),
+        ("fo.", 2),
+        ("f?o..", 3),
+        ("f.o", 3),
     ];
     for (forms, line) in cases {
         assert_eq!(rt;

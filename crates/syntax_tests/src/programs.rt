@@ -226,7 +226,8 @@ fn canonical_texts(rt: HostRuntime) -> Result<(), Fail> {
 }
 
 /// Every line form once, as it is written.
-const FORMS: &[u8] = b"var k = -5
+const FORMS: &[u8] = b"on fault skip
+var k = -5
 var t = \"a\\\"b\\\\c\\n\\t#\"
 var b = true
 for (g, q) in zip(col(\"region\"), 1:2:9), y in 1:place, z in y + 1:-1:y * 2

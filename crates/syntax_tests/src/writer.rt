@@ -50,6 +50,7 @@ fn small_sum(alloc: Global) -> Result<ProgramTree, Fail> {
         },
     )?;
     Ok(ProgramTree {
+        skip_line: None,
         vars: Many::new(alloc),
         head: HeadLine {
             line: 1,
