@@ -159,14 +159,15 @@ step_behind program names before =
     ap (λ xs. inner_runs program program.head.inner 1 (record { names = names; emitted = xs; flow = Going })) (sym (append-nil before))
     ∙ heads_emit_behind program program.head.inner 1 before (first_run names)
 
--- the same, as the code has it: where the heads, the names and what was emitted before are those
-pub step_run : (program : ProgramTree) (store : Bindings) (item : Value) (place : ℕ) (heads : List Inner) (names : Bindings) (before emitted : List Emitted) (run : BodyRun) →
-    heads ≡ program.head.inner → names ≡ names_for program store item place → emitted ≡ before →
-    run ≡ inner_runs program heads 1 (record { names = names; emitted = emitted; flow = Going }) →
+-- the same, as the code has it: where the tree, the heads, the names and what was emitted before are those
+pub step_run : (tree program : ProgramTree) (store : Bindings) (item : Value) (place : ℕ) (heads : List Inner) (names : Bindings) (before emitted : List Emitted) (run : BodyRun) →
+    tree ≡ program → heads ≡ tree.head.inner → names ≡ names_for tree store item place → emitted ≡ before →
+    run ≡ inner_runs tree heads 1 (record { names = names; emitted = emitted; flow = Going }) →
     run ≡ behind before (inner_runs program program.head.inner 1 (first_run (names_for program store item place)))
-step_run program store item place heads names before emitted run hs ns es is =
+step_run tree program store item place heads names before emitted run ts hs ns es is =
     is
-    ∙ ap (λ h. inner_runs program h 1 (record { names = names; emitted = emitted; flow = Going })) hs
-    ∙ ap (λ n. inner_runs program program.head.inner 1 (record { names = n; emitted = emitted; flow = Going })) ns
-    ∙ ap (λ xs. inner_runs program program.head.inner 1 (record { names = names_for program store item place; emitted = xs; flow = Going })) es
-    ∙ step_behind program (names_for program store item place) before
+    ∙ ap (λ h. inner_runs tree h 1 (record { names = names; emitted = emitted; flow = Going })) hs
+    ∙ ap (λ n. inner_runs tree tree.head.inner 1 (record { names = n; emitted = emitted; flow = Going })) ns
+    ∙ ap (λ xs. inner_runs tree tree.head.inner 1 (record { names = names_for tree store item place; emitted = xs; flow = Going })) es
+    ∙ step_behind tree (names_for tree store item place) before
+    ∙ ap (λ (p : ProgramTree). behind before (inner_runs p p.head.inner 1 (first_run (names_for p store item place)))) ts

@@ -29,7 +29,6 @@ use Rattle.loop_meaning.specs.declared.runs.Run.{Run}
 use Rattle.loop_meaning.specs.Laws.{InputsAreFew, RunsEmitFew, StepsEmitAtMost, StepsEmitFew}
 use Rattle.loop_meaning.specs.Reducers.{emitted_under, or_none, sites_of, start_of}
 use Rattle.loop_meaning.specs.Runs.{loop_run, with_step}
-use Rattle.loop_meaning.specs.Stores.{start_store}
 use Rattle.loop_meaning.specs.Statements.{Action, in_turn, is_going, naming, while_going}
 use Rattle.loop_meaning.specs.Steps.{Step, body_step, first_run, for_each, for_item, inner_runs, names_for, with_items}
 use Rattle.loop_meaning.proofs.EmitLemmas.{block_emits}
@@ -157,9 +156,9 @@ or_none_few None = omega arith
 or_none_few (Some v) = omega arith
 
 pub inputs_few : InputsAreFew
-inputs_few program items name sites few =
-    let run = loop_run program (start_store program) items 1 in
-    let all = runs_few program (start_store program) items 1 in
+inputs_few program store items place name sites few =
+    let run = loop_run program store items place in
+    let all = runs_few program store items place in
     let most : length items * (1000000 * length (sites_of program)) ≤ 4294967296 * (1000000 * 64) = mul-le-mul few (mul-le-mul_left 1000000 sites) in
     omega (arith, all, most, or_none_few (start_of program name), under_few name run.emitted, length-append (or_none (start_of program name)) (emitted_under name run.emitted))
 

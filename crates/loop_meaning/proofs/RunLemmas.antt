@@ -1,5 +1,5 @@
 -- The run over two lists one after the other.
-use Rattle.std.proofs.Common.{◌≡◌, ◌≢◌, ℕ, suc, ◌+◌, Bool, true, false, List, [], ◌∷◌, ◌++◌, length, take, drop, get_or, ◌<◌, add-one, length-take, refl, ap, sym, ◌∙◌, append_assoc, arith}
+use Rattle.std.proofs.Common.{◌≡◌, ◌≢◌, ℕ, suc, ◌+◌, Bool, true, false, List, [], ◌∷◌, ◌++◌, length, take, drop, get_or, ◌<◌, add-one, length-take, refl, ap, sym, ◌∙◌, append_assoc, append-nil, arith}
 use Rattle.std.proofs.Math.Seq.{take-suc}
 use Rattle.std.proofs.lemmas.List.{take-append-drop}
 use Rattle.loop_data.specs.declared.value.Value.{Value}
@@ -12,6 +12,7 @@ use Rattle.loop_meaning.specs.declared.steps.Emitted.{Emitted}
 use Rattle.loop_meaning.specs.declared.runs.PlainStop.{PlainStop}
 use Rattle.loop_meaning.specs.declared.runs.PlainStop.TheVariants as stop
 use Rattle.loop_meaning.specs.declared.runs.Run.{Run}
+use Rattle.loop_meaning.specs.Chosen.{is_skipped, stop_at}
 use Rattle.loop_meaning.specs.Runs.{after_stop, followed_by, loop_run, no_run, with_step}
 use Rattle.loop_meaning.specs.Steps.{Step, body_step}
 
@@ -88,3 +89,58 @@ stopped_run program store items n run is ne =
     is
     ∙ sym (nothing_follows program store (take n items) (drop n items) 1 ended)
     ∙ ap (λ xs. loop_run program store xs 1) (take-append-drop n items)
+
+-- ---- a run and one item more, as the code has it
+
+-- the step's fault is skipped
+skipped_at : (skips : Bool) (e : BodyEnd) (step : Step) (place : ℕ) (run after : Run) → is_skipped skips e ≡ true → run.stop ≡ stop.Ran →
+    after ≡ record { store = step.store; emitted = run.emitted; skipped = run.skipped + 1; stop = stop.Ran } →
+    after ≡ followed_by run (with_step skips e step place (no_run step.store))
+skipped_at true (end.Fault line kind) step place run after e ran is =
+    is
+    ∙ same_run step.store stop.Ran _ _ _ _ (sym (append-nil run.emitted)) refl
+    ∙ sym (ap (λ s. after_stop s run (record { store = step.store; emitted = []; skipped = 1; stop = stop.Ran })) ran)
+skipped_at true end.Next step place run after e ran is = absurd (cc (e))
+skipped_at true (end.Break line) step place run after e ran is = absurd (cc (e))
+skipped_at false b step place run after e ran is = absurd (cc (e))
+
+-- it isn't
+kept_at : (skips : Bool) (e : BodyEnd) (step : Step) (place : ℕ) (run after : Run) → is_skipped skips e ≡ false → run.stop ≡ stop.Ran →
+    after ≡ record { store = step.store; emitted = run.emitted ++ step.emitted; skipped = run.skipped; stop = stop_at e place } →
+    after ≡ followed_by run (with_step skips e step place (no_run step.store))
+kept_at skips end.Next step place run after e ran is =
+    is
+    ∙ same_run step.store stop.Ran _ _ _ _ (ap (λ xs. run.emitted ++ xs) (sym (append-nil step.emitted))) (omega arith)
+    ∙ sym (ap (λ s. after_stop s run (record { store = step.store; emitted = step.emitted ++ []; skipped = 0; stop = stop.Ran })) ran)
+kept_at skips (end.Break line) step place run after e ran is =
+    is
+    ∙ same_run step.store (stop.Break place line) _ _ _ _ refl (omega arith)
+    ∙ sym (ap (λ s. after_stop s run (record { store = step.store; emitted = step.emitted; skipped = 0; stop = stop.Break place line })) ran)
+kept_at true (end.Fault line kind) step place run after e ran is = absurd (cc (e))
+kept_at false (end.Fault line kind) step place run after e ran is =
+    is
+    ∙ same_run step.store (stop.Fault place line kind) _ _ _ _ refl (omega arith)
+    ∙ sym (ap (λ s. after_stop s run (record { store = step.store; emitted = step.emitted; skipped = 0; stop = stop.Fault place line kind })) ran)
+
+-- runs with equal parts are equal
+pub run_of : (a b : Bindings) (xs ys : List Emitted) (m n : ℕ) (p q : PlainStop) → a ≡ b → xs ≡ ys → m ≡ n → p ≡ q →
+    ◌≡◌ {A = Run} (record { store = a; emitted = xs; skipped = m; stop = p }) (record { store = b; emitted = ys; skipped = n; stop = q })
+run_of a b xs ys m n p q e f g h = λ i. record { store = e i; emitted = f i; skipped = g i; stop = h i }
+
+pub skipped_item : (program : ProgramTree) (run after : Run) (item : Value) (place : ℕ) →
+    let step = body_step program run.store item place in
+    is_skipped (skips_faults program) step.end ≡ true → run.stop ≡ stop.Ran →
+    after ≡ record { store = step.store; emitted = run.emitted; skipped = run.skipped + 1; stop = stop.Ran } →
+    after ≡ followed_by run (loop_run program run.store (item ∷ []) place)
+skipped_item program run after item place e ran is =
+    let step = body_step program run.store item place in
+    skipped_at (skips_faults program) step.end step place run after e ran is
+
+pub kept_item : (program : ProgramTree) (run after : Run) (item : Value) (place : ℕ) →
+    let step = body_step program run.store item place in
+    is_skipped (skips_faults program) step.end ≡ false → run.stop ≡ stop.Ran →
+    after ≡ record { store = step.store; emitted = run.emitted ++ step.emitted; skipped = run.skipped; stop = stop_at step.end place } →
+    after ≡ followed_by run (loop_run program run.store (item ∷ []) place)
+kept_item program run after item place e ran is =
+    let step = body_step program run.store item place in
+    kept_at (skips_faults program) step.end step place run after e ran is

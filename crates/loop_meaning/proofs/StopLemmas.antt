@@ -9,10 +9,12 @@ use Rattle.loop_meaning.specs.declared.steps.BodyEnd.TheVariants as end
 use Rattle.loop_meaning.specs.declared.runs.PlainStop.{PlainStop}
 use Rattle.loop_meaning.specs.declared.runs.PlainStop.TheVariants as stop
 use Rattle.loop_meaning.specs.declared.runs.Run.{Run}
-use Rattle.loop_meaning.specs.Laws.{StopsCutTheList, place_of, LiesAmong, StopsAmongItems, SkipsAtMostItems, SkipsNone, LeftmostStops, NoneStopsBefore, NoneStops}
+use Rattle.loop_meaning.specs.Laws.{StopsCutTheList, place_of, LiesAmong, StopsAmongItems, SkipsAtMostItems, SkipsNone, LeftmostStops, NoneStopsBefore, NoneStops, RunsStopLeftmost}
 use Rattle.loop_meaning.specs.Runs.{loop_run, with_step}
 use Rattle.loop_meaning.specs.Steps.{Step, body_step}
-use Rattle.loop_meaning.specs.Stops.{StopsAt, leftmost_from, stops}
+use Rattle.loop_meaning.specs.Stops.{StopsAt, is_stop, leftmost_from, stops}
+use Rattle.loop_meaning.specs.Stores.{start_store}
+use Rattle.loop_meaning.proofs.StoreLemmas.{store_stays}
 
 -- ---- where a run stops
 
@@ -171,3 +173,24 @@ none_before program items place also e s =
 pub none_stops : NoneStops
 none_stops program items place e s =
     subst (λ p. UpTo program p (1 + (place - 1))) e (least program items 1 (place - 1) (on_from_at program items place s))
+
+-- ---- a run stops at the leftmost stop, where a step leaves the store as it is
+
+step_stops : (skips : Bool) (e : BodyEnd) (step : Step) (place : ℕ) (rest : Run) (further : Option ℕ) → place_of rest.stop ≡ further →
+    place_of (with_step skips e step place rest).stop ≡ (if is_stop skips e then Some place else further)
+step_stops skips end.Next step place rest further h = h
+step_stops skips (end.Break line) step place rest further h = refl
+step_stops true (end.Fault line kind) step place rest further h = h
+step_stops false (end.Fault line kind) step place rest further h = refl
+
+stops_leftmost : (program : ProgramTree) (items : List Value) (place : ℕ) → program.vars ≡ [] → program.scratch ≡ [] →
+    place_of (loop_run program (start_store program) items place).stop ≡ leftmost_from program items place
+stops_leftmost program [] place no_vars no_scratch = refl
+stops_leftmost program (x ∷ xs) place no_vars no_scratch =
+    let store = start_store program in
+    let step = body_step program store x place in
+    let rest = ap (λ s. place_of (loop_run program s xs (place + 1)).stop) (store_stays program store x place no_vars no_scratch) ∙ stops_leftmost program xs (place + 1) no_vars no_scratch in
+    step_stops (skips_faults program) step.end step place (loop_run program step.store xs (place + 1)) (leftmost_from program xs (place + 1)) rest
+
+pub runs_stop_leftmost : RunsStopLeftmost
+runs_stop_leftmost program items no_vars no_scratch = stops_leftmost program items 1 no_vars no_scratch

@@ -1,20 +1,22 @@
 -- Laws of items, steps and runs.
 -- Source: this project.
-use Rattle.std.specs.Prelude.{◌≡◌, ◌≢◌, ◌≤◌, ◌<◌, ◌+◌, ◌-◌, ◌*◌, ◌^◌, ◌/◌, ◌%◌, ℕ, false, List, [], ◌∷◌, ◌++◌, length, map, min, Option, Some, None, option_and_then, slice_get, take, ℤ, pos}
-use Rattle.number_ranges.specs.Ranges.{range_count}
+use Rattle.std.specs.Prelude.{◌≡◌, ◌≢◌, ◌≤◌, ◌<◌, ◌+◌, ◌-◌, ◌*◌, ◌^◌, ◌/◌, ◌%◌, ℕ, false, List, [], ◌∷◌, ◌++◌, length, Option, Some, None, option_and_then, slice_get, take}
 use Rattle.loop_data.specs.declared.value.Value.{Value}
+use Rattle.loop_data.specs.declared.head.Axis.{Axis}
 use Rattle.loop_data.specs.declared.head.Inner.{Inner}
 use Rattle.loop_data.specs.declared.statement.Statement.{Statement}
 use Rattle.loop_grammar.specs.SkippedFaults.{skips_faults}
 use Rattle.loop_grammar.specs.declared.tree.ProgramTree.{ProgramTree}
 use Rattle.loop_values.specs.Bindings.{Bindings}
+use Rattle.column_input.specs.Table.{Contents}
 use Rattle.loop_meaning.specs.declared.steps.BodyEnd.{BodyEnd}
 use Rattle.loop_meaning.specs.declared.steps.BodyEnd.TheVariants as end
 use Rattle.loop_meaning.specs.declared.steps.BodyRun.{BodyRun}
 use Rattle.loop_meaning.specs.declared.steps.Emitted.{Emitted}
 use Rattle.loop_meaning.specs.declared.runs.PlainStop.{PlainStop}
 use Rattle.loop_meaning.specs.declared.runs.PlainStop.TheVariants.{Ran, Break, Fault}
-use Rattle.loop_meaning.specs.Items.{combinations, numbers, side_by_side}
+use Rattle.loop_meaning.specs.Counts.{axis_count, items_count}
+use Rattle.loop_meaning.specs.Items.{Sources, axis_items, combinations, items_of, side_by_side}
 use Rattle.loop_meaning.specs.Reducers.{inputs_of, sites_of}
 use Rattle.loop_meaning.specs.Runs.{followed_by, loop_run}
 use Rattle.loop_meaning.specs.Statements.{Action, block_run}
@@ -87,6 +89,12 @@ abbrev pub NoneStops : Type 0
 NoneStops = (program : ProgramTree) (items : List Value) (place : ℕ) →
     leftmost_stop program items ≡ None → StopsAt program items place → ⊥
 
+-- where there are neither outer variables nor scratches, a run from the start stops at the leftmost stop
+abbrev pub RunsStopLeftmost : Type 0
+RunsStopLeftmost = (program : ProgramTree) (items : List Value) →
+    program.vars ≡ [] → program.scratch ≡ [] →
+    place_of (loop_run program (start_store program) items 1).stop ≡ leftmost_stop program items
+
 -- ---- steps
 
 -- where there are neither outer variables nor scratches a step leaves the store as it is
@@ -125,9 +133,9 @@ RunsEmitFew = (program : ProgramTree) (store : Bindings) (items : List Value) (p
 
 -- a name of a program of at most 64 `@reduce` lines has below 2^58 inputs in a run over at most 2^32 items
 abbrev pub InputsAreFew : Type 0
-InputsAreFew = (program : ProgramTree) (items : List Value) (name : List ℕ) →
+InputsAreFew = (program : ProgramTree) (store : Bindings) (items : List Value) (place : ℕ) (name : List ℕ) →
     length (sites_of program) ≤ 64 → length items ≤ 4294967296 →
-    length (inputs_of program (loop_run program (start_store program) items 1).emitted name) < 2 ^ 58
+    length (inputs_of program (loop_run program store items place).emitted name) < 2 ^ 58
 
 -- the number of a fault's kind is from 1 to 5
 abbrev pub HasKind : BodyEnd → Type 0
@@ -150,26 +158,24 @@ FaultStopsHaveKinds = (program : ProgramTree) (store : Bindings) (items : List V
 
 -- ---- items
 
-abbrev pub product_of : List ℕ → ℕ
-product_of [] = 1
-product_of (n ∷ ns) = n * product_of ns
+-- the items are as many as the counts of the head's axes say
+abbrev pub ItemsAreCounted : Type 0
+ItemsAreCounted = (program : ProgramTree) (table : Contents) → length (items_of program table) ≡ items_count program table
 
-abbrev pub least_of : ℕ → List ℕ → ℕ
-least_of n [] = n
-least_of n (m ∷ ms) = min n (least_of m ms)
+-- an axis, a range, a column or a zip, has as many items as its count says
+abbrev pub AxesAreCounted : Type 0
+AxesAreCounted = (axis : Axis) (sources : Sources) → length (axis_items axis sources) ≡ axis_count axis sources
 
--- a range has as many items as its count says: none, or one more than the steps that fit
-abbrev pub RangeCounts : Type 0
-RangeCounts = (first step last : ℤ) → step ≢ pos 0 → length (numbers first step last) ≡ range_count first step last
+-- each list's item at this place, from 0
+abbrev pub at_place : List (List Value) → ℕ → Option (List Value)
+at_place [] before = Some []
+at_place (xs ∷ more) before =
+    option_and_then (λ x. option_and_then (λ row. Some (x ∷ row)) (at_place more before)) (slice_get xs before)
 
--- a product has as many items as the product of its axes' counts says
-abbrev pub ProductCounts : Type 0
-ProductCounts = (lists : List (List Value)) → length (combinations lists) ≡ product_of (map length lists)
-
--- a zip has as many items as its shortest part
-abbrev pub ZipCounts : Type 0
-ZipCounts = (xs : List Value) (lists : List (List Value)) →
-    length (side_by_side (xs ∷ lists)) ≡ least_of (length xs) (map length lists)
+-- the item of a zip with so many items before it holds each part's item with so many before it
+abbrev pub ZipHoldsItems : Type 0
+ZipHoldsItems = (lists : List (List Value)) (before : ℕ) →
+    before < length (side_by_side lists) → slice_get (side_by_side lists) before ≡ at_place lists before
 
 -- the values of lists at the digits of a number, in the mixed base of their lengths, the first list's digit being the lowest
 abbrev pub at_digits : List (List Value) → ℕ → Option (List Value)

@@ -1,5 +1,6 @@
 pub mod Assigned
 pub mod Chosen
+pub mod Counts
 pub mod Items
 pub mod Laws
 pub mod Reducers

@@ -26,8 +26,8 @@ fn for_item(
 ) -> Result<(), NoMemory>
     requires least { 1 ≤ width }
     requires most { width ≤ inner_limit }
-    ensures { OnOk result (run.new
-        ≡ for_item program.now head.now.name (inner_runs program.now heads.now width) item run.old) }
+    ensures { OnOk result (run.new ≡ for_item program.now head.now.name
+        (inner_runs program.now heads.now width) item run.old) }
 {
     let names = run.names.copy(alloc)?;
     run.name(alloc, head.name.as_str(), Value::Int(item))?;

@@ -12,7 +12,7 @@ ghost use Rattle.loop_meaning.specs.Items.{all_items, axis_items, column_items, 
 use crate::stores::variables;
 use column_input::Table;
 use loop_data::{Axis, Expr, HeadLine, Many, RangeExpr, TextValue, Value};
-use loop_grammar::ProgramTree;
+use loop_syntax::Program;
 use loop_values::{Env, EvalStop, eval};
 use no_memory::NoMemory;
 use number_ranges::{range_count, range_item};
@@ -250,10 +250,12 @@ fn head_items(
 /// The items of the program's first head over a table, in order. A range or a column that no loop runs over, as one of step 0
 /// or of a name that the table doesn't have, has none.
 ///
-/// It is for reference and for tests: the whole list is made. Refused only for want of memory.
-pub fn items_of(alloc: Global, program: &ProgramTree, table: &Table) -> Result<ItemList, NoMemory>
+/// It is for reference and for tests: the whole list is made, and those of a zip's parts before they are cut to the shortest.
+/// Refused only for want of memory.
+pub fn items_of(alloc: Global, program: &Program, table: &Table) -> Result<ItemList, NoMemory>
     ensures { IfOk result (λ items. items ≡ items_of program.now table.now) }
 {
-    let names = variables(alloc, program)?;
-    head_items(alloc, &program.head, &names, table)
+    let tree = program.tree();
+    let names = variables(alloc, tree)?;
+    head_items(alloc, &tree.head, &names, table)
 }

@@ -1,7 +1,7 @@
 //! What holds of the definitions, for readers and for callers' proofs: each function is empty, and its contract is the law.
 
 ghost use Rattle.loop_meaning.specs.Assigned.{OthersStay};
-ghost use Rattle.loop_meaning.specs.Laws.{BlocksEmitBehind, FaultStopsHaveKinds, FaultsHaveKinds, HeadsEmitBehind, InputsAreFew, LeftmostStops, NoneStops, NoneStopsBefore, NothingFollowsAStop, ProductCounts, ProductHoldsDigits, RangeCounts, RunsEmitFew, RunsFollowEachOther, SkipsAtMostItems, SkipsNone, StepsEmitAtMost, StepsEmitFew, StopsAmongItems, StopsCutTheList, StoreStays, ZipCounts};
+ghost use Rattle.loop_meaning.specs.Laws.{AxesAreCounted, BlocksEmitBehind, FaultStopsHaveKinds, FaultsHaveKinds, HeadsEmitBehind, InputsAreFew, ItemsAreCounted, LeftmostStops, NoneStops, NoneStopsBefore, NothingFollowsAStop, ProductHoldsDigits, RunsEmitFew, RunsFollowEachOther, RunsStopLeftmost, SkipsAtMostItems, SkipsNone, StepsEmitAtMost, StepsEmitFew, StopsAmongItems, StopsCutTheList, StoreStays, ZipHoldsItems};
 
 /// The run over two lists is the run over the first and, where that ran to its end, then over the second. What follows a stop
 /// doesn't count, and a run that stops is the run up to its stop.
@@ -28,11 +28,13 @@ pub fn skips_few()
     ensures none { SkipsNone }
 {}
 
-/// The leftmost stop is the least place at which an item stops.
+/// The leftmost stop is the least place at which an item stops. Where there are neither outer variables nor scratches, the run
+/// from the start stops there.
 pub fn leftmost_stop_is_least()
     ensures stops { LeftmostStops }
     ensures least { NoneStopsBefore }
     ensures none { NoneStops }
+    ensures runs { RunsStopLeftmost }
 {}
 
 /// Where there are neither outer variables nor scratches a step leaves the store as it is.
@@ -67,10 +69,14 @@ pub fn product_holds_digits()
     ensures { ProductHoldsDigits }
 {}
 
-/// A range has as many items as its count says, a product as many as the product of its axes' counts, and a zip as many as its
-/// shortest part.
+/// The item of a zip with so many items before it holds each part's item with so many before it.
+pub fn zip_holds_items()
+    ensures { ZipHoldsItems }
+{}
+
+/// There are as many items as the counts of the head's axes say: a range has its count, a column its rows, a zip as many as its
+/// shortest part, a product the product of its axes' counts.
 pub fn items_are_counted()
-    ensures range { RangeCounts }
-    ensures product { ProductCounts }
-    ensures zip { ZipCounts }
+    ensures items { ItemsAreCounted }
+    ensures axes { AxesAreCounted }
 {}

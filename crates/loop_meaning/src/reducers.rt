@@ -14,6 +14,7 @@ use crate::stores::start_store;
 use crate::{Emitted, ItemList, Named, PlainEnd, Run};
 use loop_data::{Branch, Many, Statement, TextValue, Value};
 use loop_grammar::ProgramTree;
+use loop_syntax::Program;
 use no_memory::NoMemory;
 use std::alloc::Global;
 
@@ -39,7 +40,8 @@ fn push_site(
     start: &Option<Value>,
     sites: &mut Many<Site>,
 ) -> Result<(), NoMemory>
-    ensures { OnOk result (sites.new ≡ sites.old ++ record { name = name.now; start = start.now } ∷ []) }
+    ensures { OnOk result (sites.new
+        ≡ sites.old ++ record { name = name.now; start = start.now } ∷ []) }
 {
     let name = name.copy(alloc)?;
     let start = copy_start(alloc, start)?;
@@ -227,12 +229,12 @@ fn named_inputs(
 /// inputs are kept. Refused only for want of memory.
 pub fn run_plain(
     alloc: Global,
-    program: &ProgramTree,
+    program: &Program,
     items: &ItemList,
 ) -> Result<PlainEnd, NoMemory>
     ensures { IfOk result (λ end. end ≡ plain_end program.now items.now) }
 {
     let store = start_store(alloc, program)?;
     let run = loop_run(alloc, program, store, items.as_slice())?;
-    end_of_run(alloc, program, &run)
+    end_of_run(alloc, program.tree(), &run)
 }

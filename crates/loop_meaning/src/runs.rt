@@ -2,12 +2,12 @@
 
 ghost use Rattle.std.specs.Prelude.{◌≡◌, ◌≢◌, ◌+◌, ◌<◌, ◌≤◌, ◌^◌, ◌∷◌, [], take, IfOk, IsTrue, IsFalse};
 ghost use Rattle.loop_grammar.specs.SkippedFaults.{skips_faults};
+ghost use Rattle.loop_meaning.specs.Chosen.{is_fault, is_skipped, stop_at};
 ghost use Rattle.loop_meaning.specs.Runs.{followed_by, loop_run, no_run};
 
-use crate::steps::body_step;
-use crate::{BodyEnd, Emitted};
+use crate::{BodyEnd, Emitted, step_plain};
 use loop_data::{Many, TextValue, Value};
-use loop_grammar::ProgramTree;
+use loop_syntax::Program;
 use loop_values::Env;
 use no_memory::NoMemory;
 use std::alloc::Global;
@@ -48,13 +48,6 @@ pub struct PlainEnd {
     pub skipped: u64,
 }
 
-/// Whether the program has the line `on fault skip`.
-fn skips_faults(program: &ProgramTree) -> bool
-    ensures { result ≡ skips_faults program.now }
-{
-    program.skip_line.is_some()
-}
-
 /// Whether a run that ended so stopped before the end of its items.
 fn has_stopped(stop: PlainStop) -> bool
     ensures stopped { IsTrue result → stop ≢ PlainStop.Ran }
@@ -87,10 +80,39 @@ fn no_run(alloc: Global, store: Env) -> Run
     }
 }
 
+/// How a run stands behind a step that ended so at this place, which isn't skipped.
+fn stop_at(end: BodyEnd, place: u64) -> PlainStop
+    ensures { result ≡ stop_at end place }
+{
+    match end {
+        BodyEnd::Next => PlainStop::Ran,
+        BodyEnd::Break { line } => PlainStop::Break { at: place, line },
+        BodyEnd::Fault { line, kind } => PlainStop::Fault {
+            at: place,
+            line,
+            kind,
+        },
+    }
+}
+
+/// Whether a step ended in a fault.
+fn is_fault(end: BodyEnd) -> bool
+    ensures { result ≡ is_fault end }
+{
+    matches!(end, BodyEnd::Fault { .. })
+}
+
+/// Whether the program skips the fault in which a step ended, if it ended so.
+fn is_skipped(program: &Program, end: BodyEnd) -> bool
+    ensures { result ≡ is_skipped (skips_faults program.now) end }
+{
+    program.skips_faults() && is_fault(end)
+}
+
 /// A run that ran to its end, and the item that follows it, at a place counted from 1.
 fn with_item(
     alloc: Global,
-    program: &ProgramTree,
+    program: &Program,
     run: Run,
     item: &Value,
     place: u64,
@@ -102,61 +124,30 @@ fn with_item(
         ≡ followed_by run (loop_run program.now run.store (item.now ∷ []) place)) }
     ensures skipped { IfOk result (λ after. after.skipped ≤ run.skipped + 1) }
 {
-    let Run {
-        mut store,
-        mut emitted,
-        skipped,
-        ..
-    } = run;
+    let mut store = run.store;
+    let mut emitted = run.emitted;
     let before = emitted.len();
-    let end = body_step(
-        alloc,
-        program,
-        &mut store,
-        item.copy(alloc)?,
-        place,
-        &mut emitted,
-    )?;
-    match end {
-        BodyEnd::Next => Ok(Run {
+    let end = step_plain(alloc, program, &mut store, item.copy(alloc)?, place, &mut emitted)?;
+    if is_skipped(program, end) {
+        return Ok(Run {
             store,
-            emitted,
-            skipped,
+            emitted: first_of(emitted, before),
+            skipped: run.skipped + 1,
             stop: PlainStop::Ran,
-        }),
-        BodyEnd::Break { line } => Ok(Run {
-            store,
-            emitted,
-            skipped,
-            stop: PlainStop::Break { at: place, line },
-        }),
-        BodyEnd::Fault { line, kind } => {
-            if skips_faults(program) {
-                return Ok(Run {
-                    store,
-                    emitted: first_of(emitted, before),
-                    skipped: skipped + 1,
-                    stop: PlainStop::Ran,
-                });
-            }
-            Ok(Run {
-                store,
-                emitted,
-                skipped,
-                stop: PlainStop::Fault {
-                    at: place,
-                    line,
-                    kind,
-                },
-            })
-        }
+        });
     }
+    Ok(Run {
+        store,
+        emitted,
+        skipped: run.skipped,
+        stop: stop_at(end, place),
+    })
 }
 
 /// The run of the plain loop from a store over items, from place 1, up to the item that stops it.
 pub(crate) fn loop_run(
     alloc: Global,
-    program: &ProgramTree,
+    program: &Program,
     store: Env,
     items: &[Value],
 ) -> Result<Run, NoMemory>

@@ -182,7 +182,8 @@ fn run_branches(alloc: Global, branches: &[Branch], run: &mut BodyRun) -> Result
     Ok(false)
 }
 
-/// Does one statement in a body run that goes on. Refused only for want of memory: then the body run can only be dropped.
+/// Does one statement in a body run, without asking whether it goes on: [`run_block`] asks. Refused only for want of memory: then
+/// the body run can only be dropped.
 #[cycle(statements)]
 pub fn run_statement(
     alloc: Global,

@@ -9,6 +9,7 @@ use crate::statements::{bind_pattern, run_block};
 use crate::stores::keep_stored;
 use loop_data::{Many, TextValue, Value};
 use loop_grammar::ProgramTree;
+use loop_syntax::Program;
 use loop_values::Env;
 use no_memory::NoMemory;
 use std::alloc::Global;
@@ -122,40 +123,13 @@ fn end_of(flow: Flow) -> BodyEnd
     }
 }
 
-/// One step of the body: the store becomes the new one, and what the step emits is put behind `emitted`.
-pub(crate) fn body_step(
-    alloc: Global,
-    program: &ProgramTree,
-    store: &mut Env,
-    item: Value,
-    place: u64,
-    emitted: &mut Many<Emitted>,
-) -> Result<BodyEnd, NoMemory>
-    requires place { place < 2 ^ 63 }
-    ensures end { IfOk result (λ end. end ≡ (body_step program.now store.old item place).end) }
-    ensures store { OnOk result (store.new ≡ (body_step program.now store.old item place).store) }
-    ensures emitted { OnOk result (emitted.new
-        ≡ emitted.old ++ (body_step program.now store.old item place).emitted) }
-{
-    let names = names_for(alloc, program, store, item, place)?;
-    let mut run = BodyRun {
-        names,
-        emitted: std::mem::replace(emitted, Many::new(alloc)),
-        flow: Flow::Going,
-    };
-    inner_runs(alloc, program, program.head.inner.as_slice(), 1, &mut run)?;
-    keep_stored(alloc, program, store, &run.names)?;
-    *emitted = run.emitted;
-    Ok(end_of(run.flow))
-}
-
 /// One step of the body for an item at a place, counted from 1: the store becomes the new one, and what the step emits is put
 /// behind `emitted`, in order. What the statements before a break or a fault assigned and emitted is in both.
 ///
 /// Refused only for want of memory: then the store and the list can only be dropped.
 pub fn step_plain(
     alloc: Global,
-    program: &ProgramTree,
+    program: &Program,
     store: &mut Env,
     item: Value,
     place: u64,
@@ -167,5 +141,15 @@ pub fn step_plain(
     ensures emitted { OnOk result (emitted.new
         ≡ emitted.old ++ (body_step program.now store.old item place).emitted) }
 {
-    body_step(alloc, program, store, item, place, emitted)
+    let tree = program.tree();
+    let names = names_for(alloc, tree, store, item, place)?;
+    let mut run = BodyRun {
+        names,
+        emitted: std::mem::replace(emitted, Many::new(alloc)),
+        flow: Flow::Going,
+    };
+    inner_runs(alloc, tree, tree.head.inner.as_slice(), 1, &mut run)?;
+    keep_stored(alloc, tree, store, &run.names)?;
+    *emitted = run.emitted;
+    Ok(end_of(run.flow))
 }

@@ -6,6 +6,7 @@ ghost use Rattle.loop_meaning.specs.Stores.{with_literals, variables, start_stor
 
 use loop_data::Binding;
 use loop_grammar::ProgramTree;
+use loop_syntax::Program;
 use loop_values::Env;
 use no_memory::NoMemory;
 use std::alloc::Global;
@@ -32,11 +33,12 @@ pub(crate) fn variables(alloc: Global, program: &ProgramTree) -> Result<Env, NoM
 
 /// The store in which a loop begins: each outer variable and each scratch has its literal's value. Refused only for want of
 /// memory.
-pub fn start_store(alloc: Global, program: &ProgramTree) -> Result<Env, NoMemory>
+pub fn start_store(alloc: Global, program: &Program) -> Result<Env, NoMemory>
     ensures { IfOk result (λ store. store ≡ start_store program.now) }
 {
-    let mut store = variables(alloc, program)?;
-    with_literals(alloc, &mut store, program.scratch.as_slice())?;
+    let tree = program.tree();
+    let mut store = variables(alloc, tree)?;
+    with_literals(alloc, &mut store, tree.scratch.as_slice())?;
     Ok(store)
 }
 
