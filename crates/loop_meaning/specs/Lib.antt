@@ -1,0 +1,11 @@
+pub mod Assigned
+pub mod Chosen
+pub mod Counts
+pub mod Items
+pub mod Laws
+pub mod Reducers
+pub mod Runs
+pub mod Statements
+pub mod Steps
+pub mod Stops
+pub mod Stores

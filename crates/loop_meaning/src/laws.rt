@@ -1,0 +1,82 @@
+//! What holds of the definitions, for readers and for callers' proofs: each function is empty, and its contract is the law.
+
+ghost use Rattle.loop_meaning.specs.Assigned.{OthersStay};
+ghost use Rattle.loop_meaning.specs.Laws.{AxesAreCounted, BlocksEmitBehind, FaultStopsHaveKinds, FaultsHaveKinds, HeadsEmitBehind, InputsAreFew, ItemsAreCounted, LeftmostStops, NoneStops, NoneStopsBefore, NothingFollowsAStop, ProductHoldsDigits, RunsEmitFew, RunsFollowEachOther, RunsStopLeftmost, SkipsAtMostItems, SkipsNone, StepsEmitAtMost, StepsEmitFew, StopsAmongItems, StopsCutTheList, StoreStays, ZipHoldsItems};
+
+/// The run over two lists is the run over the first and, where that ran to its end, then over the second. What follows a stop
+/// doesn't count, and a run that stops is the run up to its stop.
+pub fn runs_follow_each_other()
+    ensures both { RunsFollowEachOther }
+    ensures stop { NothingFollowsAStop }
+    ensures cut { StopsCutTheList }
+{}
+
+/// A fault's kind is from 1 to 5.
+pub fn faults_have_kinds()
+    ensures steps { FaultsHaveKinds }
+    ensures runs { FaultStopsHaveKinds }
+{}
+
+/// A run stops at the place of one of its items.
+pub fn stops_among_items()
+    ensures { StopsAmongItems }
+{}
+
+/// A run skips at most as many faults as it has items, and none without `on fault skip`.
+pub fn skips_few()
+    ensures most { SkipsAtMostItems }
+    ensures none { SkipsNone }
+{}
+
+/// The leftmost stop is the least place at which an item stops. Where there are neither outer variables nor scratches, the run
+/// from the start stops there.
+pub fn leftmost_stop_is_least()
+    ensures stops { LeftmostStops }
+    ensures least { NoneStopsBefore }
+    ensures none { NoneStops }
+    ensures runs { RunsStopLeftmost }
+{}
+
+/// Where there are neither outer variables nor scratches a step leaves the store as it is.
+pub fn store_stays()
+    ensures { StoreStays }
+{}
+
+/// A name that a step neither binds nor assigns has the same value in the store afterwards.
+pub fn others_stay()
+    ensures { OthersStay }
+{}
+
+/// What was emitted before changes nothing of what a block, or the body runs of inner heads, do, and stands before what they
+/// emit.
+pub fn emitted_stands_behind()
+    ensures blocks { BlocksEmitBehind }
+    ensures heads { HeadsEmitBehind }
+{}
+
+/// A step emits at most 1,000,000 inputs for each `@reduce` line, and a run so many for each item. So a step of a program of at
+/// most 64 such lines emits at most 64,000,000, and a name has below 2^58 inputs in a run over at most 2^32 items.
+pub fn few_are_emitted()
+    ensures steps { StepsEmitFew }
+    ensures most { StepsEmitAtMost }
+    ensures runs { RunsEmitFew }
+    ensures inputs { InputsAreFew }
+{}
+
+/// The item of a product with so many items before it holds each axis's item at the digits of that number, in the mixed base of
+/// the axes' counts, the first axis's digit being the lowest.
+pub fn product_holds_digits()
+    ensures { ProductHoldsDigits }
+{}
+
+/// The item of a zip with so many items before it holds each part's item with so many before it.
+pub fn zip_holds_items()
+    ensures { ZipHoldsItems }
+{}
+
+/// There are as many items as the counts of the head's axes say: a range has its count, a column its rows, a zip as many as its
+/// shortest part, a product the product of its axes' counts.
+pub fn items_are_counted()
+    ensures items { ItemsAreCounted }
+    ensures axes { AxesAreCounted }
+{}
