@@ -1,3 +1,5 @@
 pub mod LineForms
 pub mod Nesting
+pub mod RefusalTexts
+pub mod SkippedFaults
 pub mod Texts

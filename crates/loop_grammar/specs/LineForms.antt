@@ -1,6 +1,6 @@
 -- Which tokens spell which line. Numbers may be of any size: a flag beside what is spelled says whether some number is too wide.
 -- Source: this project's language.
-use Rattle.std.specs.Prelude.{◌≡◌, ℕ, ◌+◌, ◌≤◌, max, Bool, true, false, ◌||◌, List, [], ◌∷◌, length, Option, Some, None}
+use Rattle.std.specs.Prelude.{◌≡◌, ℕ, ◌+◌, ◌≤◌, max, Bool, true, false, ◌||◌, List, [], ◌∷◌, length, Option, Some, None, codes}
 use Rattle.loop_tokens.specs.declared.token.Token.{Token}
 use Rattle.loop_tokens.specs.declared.token.Token.TheVariants as tok
 use Rattle.loop_tokens.specs.declared.keyword.Keyword.{Keyword}
@@ -116,6 +116,9 @@ pub data SpellsTower : TowerExpr → Bool → List Token → List Token → Type
 
 -- SpellsLine line wide tokens: the tokens, all of them together, spell the line.
 pub data SpellsLine : Line → Bool → List Token → Type 0 where
+  -- three names, which are no reserved words
+  skip_faults : {on fault skip : List ℕ} → on ≡ codes "on" → fault ≡ codes "fault" → skip ≡ codes "skip" →
+      SpellsLine l.SkipFaults false (tok.Name on ∷ tok.Name fault ∷ tok.Name skip ∷ [])
   var : {n : List ℕ} {v : Value} {u : Bool} {ts : List Token} → SpellsLiteral v u ts [] →
       SpellsLine (l.Var n v) u (tok.Keyword kw.Var ∷ tok.Name n ∷ tok.Sign sg.Assign ∷ ts)
   init : {n : List ℕ} {v : Value} {u : Bool} {ts : List Token} → SpellsLiteral v u ts [] →

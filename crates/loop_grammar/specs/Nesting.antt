@@ -1,6 +1,6 @@
 -- How the lines of a loop file nest to a program, and the first line that breaks the nesting.
 -- Source: this project's language.
-use Rattle.std.specs.Prelude.{◌≡◌, ℕ, zero, suc, List, [], ◌∷◌, ◌++◌, Option, Some, None}
+use Rattle.std.specs.Prelude.{◌≡◌, ℕ, suc, List, [], ◌∷◌, ◌++◌, Option, Some, None}
 use Rattle.loop_data.specs.declared.value.Value.{Value}
 use Rattle.loop_data.specs.declared.expr.Expr.{Expr}
 use Rattle.loop_data.specs.declared.tower.TowerExpr.{TowerExpr}
@@ -52,6 +52,11 @@ mutual
         NestsParts r [] n other m (on n l.Else ∷ ls) rest
     end : {r m : ℕ} {rest : List NumberedLine} → NestsParts r [] 0 [] m (on m l.End ∷ rest) rest
 
+-- at most one line `on fault skip`, and its number
+pub data NestsSkip : Option ℕ → List NumberedLine → List NumberedLine → Type 0 where
+  none : {rest : List NumberedLine} → NestsSkip None rest rest
+  one : {n : ℕ} {rest : List NumberedLine} → NestsSkip (Some n) (on n l.SkipFaults ∷ rest) rest
+
 -- any number of `var` lines
 pub data NestsVars : List Binding → List NumberedLine → List NumberedLine → Type 0 where
   none : {rest : List NumberedLine} → NestsVars [] rest rest
@@ -76,9 +81,11 @@ head_line n h m = record { line = n; names = h.names; axes = h.axes; product = h
 
 -- Nests room program lines: the lines are the program, and at most `room` blocks are open within one another, the loop's being the first.
 pub data Nests : ℕ → ProgramTree → List NumberedLine → Type 0 where
-  program : {r n m : ℕ} {vars scratch : List Binding} {h : Heads} {body : List Statement} {prints : List PrintLine} {ls us vs ws : List NumberedLine} →
-      NestsVars vars ls (on n (l.For h) ∷ us) → NestsInits scratch us vs → NestsBlock r body vs (on m l.End ∷ ws) → NestsPrints prints ws →
-      Nests (suc r) (record { vars = vars; head = head_line n h m; scratch = scratch; body = body; prints = prints }) ls
+  program : {r n m : ℕ} {skip : Option ℕ} {vars scratch : List Binding} {h : Heads} {body : List Statement} {prints : List PrintLine}
+      {ks ls us vs ws : List NumberedLine} →
+      NestsSkip skip ks ls → NestsVars vars ls (on n (l.For h) ∷ us) → NestsInits scratch us vs → NestsBlock r body vs (on m l.End ∷ ws) →
+      NestsPrints prints ws →
+      Nests (suc r) (record { skip_line = skip; vars = vars; head = head_line n h m; scratch = scratch; body = body; prints = prints }) ks
 
 -- the most blocks that may be open
 abbrev pub most_blocks : ℕ

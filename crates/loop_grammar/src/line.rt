@@ -5,6 +5,8 @@ use loop_data::{Axis, Expr, Inner, Many, TextValue, TowerExpr, Value};
 /// A line that isn't blank, by its form.
 #[derive(Debug, PartialEq, Eq, Drop)]
 pub enum Line {
+    /// `on fault skip`, three names that stay names everywhere else.
+    SkipFaults,
     /// `var NAME = LITERAL`
     Var {
         name: TextValue,

@@ -2,6 +2,7 @@
 
 use no_memory::NoMemory;
 use std::alloc::{AllocError, AllocFailed};
+use std::fmt;
 
 /// Why a text spells no program: its first refusal. Bytes and lines are counted from 1.
 #[derive(Clone, Copy, Debug, PartialEq, Eq)]
@@ -19,6 +20,27 @@ pub enum SyntaxRefusal {
     NumberTooWide { line: u32 },
     /// 6: memory ran out.
     NoMemory,
+}
+
+/// The refusal as the program writes it, as `line 2: bad nesting`.
+impl fmt::Display for SyntaxRefusal {
+    ghost use Rattle.std.specs.Prelude.{Some};
+    ghost use Rattle.loop_grammar.specs.RefusalTexts.{syntax_text};
+
+    ghost output = { λ refusal. Some (syntax_text refusal) };
+
+    fn fmt<W: fmt::Write>(&self, f: &mut fmt::Formatter<W>) -> fmt::Result {
+        match *self {
+            SyntaxRefusal::NotUtf8 { byte } => write!(f, "byte {byte}: not UTF-8"),
+            SyntaxRefusal::NotALine { line } => {
+                write!(f, "line {line}: not a line of the language")
+            }
+            SyntaxRefusal::BadNesting { line } => write!(f, "line {line}: bad nesting"),
+            SyntaxRefusal::TooDeep { line } => write!(f, "line {line}: too deep"),
+            SyntaxRefusal::NumberTooWide { line } => write!(f, "line {line}: number too wide"),
+            SyntaxRefusal::NoMemory => f.write_str("out of memory"),
+        }
+    }
 }
 
 impl From<NoMemory> for SyntaxRefusal {

@@ -14,7 +14,7 @@ use Rattle.loop_nesting.proofs.Sound.{sound}
 use Rattle.loop_nesting.proofs.Complete.{complete}
 
 abbrev start : Stage
-start = stage.Vars []
+start = stage.Start
 
 -- ---- a front is viable exactly where it is read
 
@@ -134,7 +134,8 @@ Means lines end (Ok p) = Nests most_blocks p lines
 Means lines end (Err r) = NestingRefusal lines end r
 
 means_at : (lines : List NumberedLine) (end : ℕ) (a : Answer) → run most_ifs start lines ≡ a → Means lines end (finish end a)
-means_at lines end (Ok (stage.Vars vars)) e = too_early lines end (stage.Vars vars) tt e
+means_at lines end (Ok stage.Start) e = too_early lines end stage.Start tt e
+means_at lines end (Ok (stage.Vars q)) e = too_early lines end (stage.Vars q) tt e
 means_at lines end (Ok (stage.Loop o)) e = too_early lines end (stage.Loop o) tt e
 means_at lines end (Ok (stage.Prints p)) e = sound most_ifs p lines e
 means_at lines end (Err r) e = bad_line lines end r e
@@ -192,7 +193,8 @@ found lines front more x first =
     found_at lines front more x f.0 (step most_ifs f.0 x) first f.1 refl (why most_ifs f.0 x)
 
 early_at : (lines : List NumberedLine) (end : ℕ) (at : Stage) → IsFirstBad lines lines [] → run most_ifs start lines ≡ Ok at → finish end (Ok at) ≡ Err (BadNesting end)
-early_at lines end (stage.Vars vars) first e = refl
+early_at lines end stage.Start first e = refl
+early_at lines end (stage.Vars q) first e = refl
 early_at lines end (stage.Loop o) first e = refl
 early_at lines end (stage.Prints p) first e = absurd (first.early refl p (sound most_ifs p lines e))
 

@@ -1,5 +1,5 @@
 -- The lines of a program are read to the end, as that program.
-use Rattle.std.proofs.Common.{◌≡◌, ℕ, ◌+◌, zero, suc, nat_lt, List, [], ◌∷◌, ◌++◌, length, Ok, Err, if◌then◌else◌, refl, ap, sym, ◌∙◌, append_assoc, append-nil, arith}
+use Rattle.std.proofs.Common.{◌≡◌, ℕ, ◌+◌, zero, suc, nat_lt, List, [], ◌∷◌, ◌++◌, length, Option, Some, None, Ok, Err, if◌then◌else◌, refl, ap, sym, ◌∙◌, append_assoc, append-nil, arith}
 use Rattle.std.proofs.lemmas.Bool.{lt-ltb}
 use Rattle.loop_data.specs.declared.expr.Expr.{Expr}
 use Rattle.loop_data.specs.declared.statement.Statement.{Statement}
@@ -7,17 +7,20 @@ use Rattle.loop_data.specs.declared.statement.Statement.TheVariants as s
 use Rattle.loop_data.specs.declared.statement.Branch.{Branch}
 use Rattle.loop_data.specs.declared.head.Binding.{Binding}
 use Rattle.loop_data.specs.declared.head.PrintLine.{PrintLine}
+use Rattle.loop_grammar.specs.declared.line.Line.TheVariants as l
+use Rattle.loop_grammar.specs.declared.line.Heads.{Heads}
 use Rattle.loop_grammar.specs.declared.line.NumberedLine.{NumberedLine}
 use Rattle.loop_grammar.specs.declared.tree.ProgramTree.{ProgramTree}
 use Rattle.loop_grammar.specs.declared.refusal.SyntaxRefusal.{SyntaxRefusal}
 use Rattle.loop_grammar.specs.declared.refusal.SyntaxRefusal.TheVariants.{TooDeep}
-use Rattle.loop_grammar.specs.Nesting.{NestsStatement, NestsBlock, NestsParts, NestsVars, NestsInits, NestsPrints, Nests}
+use Rattle.loop_grammar.specs.Nesting.{on, NestsStatement, NestsBlock, NestsParts, NestsSkip, NestsVars, NestsInits, NestsPrints, Nests}
 use Rattle.loop_nesting.specs.declared.open.Stage.{Stage}
 use Rattle.loop_nesting.specs.declared.open.Stage.TheVariants as stage
+use Rattle.loop_nesting.specs.declared.open.Preface.{Preface}
 use Rattle.loop_nesting.specs.declared.open.OpenLoop.{OpenLoop}
 use Rattle.loop_nesting.specs.declared.open.OpenIf.{OpenIf}
 use Rattle.loop_nesting.specs.declared.open.Opened.TheVariants as opened
-use Rattle.loop_nesting.specs.Reading.{entered, whole_loop, run, run_on}
+use Rattle.loop_nesting.specs.Reading.{no_preface, add_var, entered, with_scratch, whole_loop, run, run_on}
 
 -- the loop with these open `if`s and this block
 abbrev here : OpenLoop → List OpenIf → List Statement → Stage
@@ -63,14 +66,23 @@ mutual
       read_block b most o (record { before = before; line = n; branches = done ++ branch k x block ∷ []; opened = opened.Else j } ∷ ifs) [] (omega arith)
   read_parts NestsParts.end most o ifs before n done k x block e = refl
 
-read_vars : {bs : List Binding} {ls rest : List NumberedLine} → NestsVars bs ls rest → (most : ℕ) (vars : List Binding) → run most (stage.Vars vars) ls ≡ run most (stage.Vars (vars ++ bs)) rest
-read_vars (NestsVars.none {rest = rest}) most vars = ap (λ z. run most (stage.Vars z) rest) (sym (append-nil vars))
-read_vars (NestsVars.more {n = n} {name = name} {v = v} {bs = bs} {rest = rest} b) most vars =
-    read_vars b most (vars ++ record { line = n; name = name; value = v } ∷ []) ∙ ap (λ z. run most (stage.Vars z) rest) (append_assoc vars (record { line = n; name = name; value = v } ∷ []) bs)
+read_vars : {bs : List Binding} {ls rest : List NumberedLine} → NestsVars bs ls rest → (most : ℕ) (q : Preface) →
+    run most (stage.Vars q) ls ≡ run most (stage.Vars (record q { vars = q.vars ++ bs })) rest
+read_vars (NestsVars.none {rest = rest}) most q = ap (λ z. run most (stage.Vars (record q { vars = z })) rest) (sym (append-nil q.vars))
+read_vars (NestsVars.more {n = n} {name = name} {v = v} {bs = bs} {rest = rest} b) most q =
+    read_vars b most (add_var q (record { line = n; name = name; value = v }))
+    ∙ ap (λ z. run most (stage.Vars (record q { vars = z })) rest) (append_assoc q.vars (record { line = n; name = name; value = v } ∷ []) bs)
+
+-- the line `on fault skip`, where it stands, is read
+read_skip : {skip : Option ℕ} {n : ℕ} {h : Heads} {bs : List Binding} {ks ls us : List NumberedLine} → NestsSkip skip ks ls → NestsVars bs ls (on n (l.For h) ∷ us) →
+    (most : ℕ) → run most stage.Start ks ≡ run most (stage.Vars (record { skip_line = skip; vars = [] })) ls
+read_skip NestsSkip.one a most = refl
+read_skip NestsSkip.none NestsVars.none most = refl
+read_skip NestsSkip.none (NestsVars.more b) most = refl
 
 -- the loop before the first statement of its body
 abbrev fresh : OpenLoop → List Binding → Stage
-fresh o scratch = stage.Loop (record o { scratch = scratch; ifs = []; block = [] })
+fresh o scratch = stage.Loop (record (with_scratch o scratch) { ifs = []; block = [] })
 
 read_inits : {bs : List Binding} {ls rest : List NumberedLine} → NestsInits bs ls rest → (most : ℕ) (o : OpenLoop) (scratch : List Binding) → run most (fresh o scratch) ls ≡ run most (fresh o (scratch ++ bs)) rest
 read_inits (NestsInits.none {rest = rest}) most o scratch = ap (λ z. run most (fresh o z) rest) (sym (append-nil scratch))
@@ -85,9 +97,11 @@ read_prints (NestsPrints.more {n = n} {name = name} {ps = ps} h) most p =
 -- the whole, where the loop's block is one of the room
 abbrev pub ReadsIn : ℕ → ProgramTree → List NumberedLine → Type 0
 ReadsIn zero p ls = ⊥
-ReadsIn (suc most) p ls = run most (stage.Vars []) ls ≡ Ok (stage.Prints p)
+ReadsIn (suc most) p ls = run most stage.Start ls ≡ Ok (stage.Prints p)
 
 pub complete : {room : ℕ} {p : ProgramTree} {ls : List NumberedLine} → Nests room p ls → ReadsIn room p ls
-complete (Nests.program {r = r} {n = n} {m = m} {vars = vars} {scratch = scratch} {h = h} {body = body} {ls = ls} {us = us} {vs = vs} {ws = ws} a i b p) =
-    read_vars a r [] ∙ read_inits i r (entered vars n h) [] ∙ read_block b r (record (entered vars n h) { scratch = scratch }) [] [] (omega arith)
-    ∙ read_prints p r (whole_loop (record (entered vars n h) { scratch = scratch; block = body }) m)
+complete (Nests.program {r = r} {n = n} {m = m} {skip = skip} {vars = vars} {scratch = scratch} {h = h} {body = body} k a i b p) =
+    let q : Preface = record { skip_line = skip; vars = vars } in
+    let o : OpenLoop = with_scratch (entered q n h) scratch in
+    read_skip k a r ∙ read_vars a r (record { skip_line = skip; vars = [] }) ∙ read_inits i r (entered q n h) [] ∙ read_block b r o [] [] (omega arith)
+    ∙ read_prints p r (whole_loop o.front body m)

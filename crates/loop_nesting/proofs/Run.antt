@@ -3,7 +3,6 @@ use Rattle.std.proofs.Common.{◌≡◌, ℕ, ◌+◌, suc, nat_lt, Bool, true, 
 use Rattle.std.proofs.lemmas.Bool.{ltb-true, lt-ltb}
 use Rattle.loop_data.specs.declared.value.Value.{Value}
 use Rattle.loop_data.specs.declared.statement.Statement.{Statement}
-use Rattle.loop_data.specs.declared.head.Binding.{Binding}
 use Rattle.loop_grammar.specs.declared.line.Line.{Line}
 use Rattle.loop_grammar.specs.declared.line.Line.TheVariants as l
 use Rattle.loop_grammar.specs.declared.line.Heads.{Heads}
@@ -14,11 +13,12 @@ use Rattle.loop_grammar.specs.declared.refusal.SyntaxRefusal.TheVariants.{BadNes
 use Rattle.loop_grammar.specs.Nesting.{on}
 use Rattle.loop_nesting.specs.declared.open.Stage.{Stage}
 use Rattle.loop_nesting.specs.declared.open.Stage.TheVariants as stage
+use Rattle.loop_nesting.specs.declared.open.Preface.{Preface}
 use Rattle.loop_nesting.specs.declared.open.OpenLoop.{OpenLoop}
 use Rattle.loop_nesting.specs.declared.open.OpenIf.{OpenIf}
 use Rattle.loop_nesting.specs.declared.open.Opened.{Opened}
 use Rattle.loop_nesting.specs.declared.open.Opened.TheVariants as opened
-use Rattle.loop_nesting.specs.Reading.{Answer, in_vars, in_loop, in_prints, init, deeper, branched, onward, next_branch, ended, closed, whole_loop, entered, step, run, run_on}
+use Rattle.loop_nesting.specs.Reading.{Answer, no_preface, at_start, in_vars, in_loop, in_prints, init_at, deeper, branched, onward, next_branch, ended, closed, whole_loop, entered, step, run, run_on}
 
 -- ---- in two parts
 
@@ -69,7 +69,7 @@ plain : (n most : ℕ) (a : Answer) → Plain n a → Reason (λ _. a) n most a
 plain n most (Ok b) h = tt
 plain n most (Err r) h = inl (h, λ room b e. cc)
 
-plain_init : (o : OpenLoop) (n : ℕ) (name : List ℕ) (v : Value) (ifs : List OpenIf) (block : List Statement) → Plain n (init o n name v ifs block)
+plain_init : (o : OpenLoop) (n : ℕ) (name : List ℕ) (v : Value) (ifs : List OpenIf) (block : List Statement) → Plain n (init_at o n name v ifs block)
 plain_init o n name v [] [] = tt
 plain_init o n name v [] (x ∷ block) = refl
 plain_init o n name v (f ∷ ifs) block = refl
@@ -95,26 +95,32 @@ at_more a most s r = rw (lt-ltb a (most + suc a) (omega arith))
 
 in_loop_why : (most : ℕ) (o : OpenLoop) (n : ℕ) (form : Line) → Reason (λ room. in_loop room o n form) n most (in_loop most o n form)
 in_loop_why most o n (l.If x) = deep (λ room. deeper room o n x) n most (suc (length o.ifs)) (nat_lt (length o.ifs) most) _ (at_more (length o.ifs) most _ (TooDeep n))
-in_loop_why most o n (l.Init name v) = plain n most (init o n name v o.ifs o.block) (plain_init o n name v o.ifs o.block)
+in_loop_why most o n (l.Init name v) = plain n most (init_at o n name v o.ifs o.block) (plain_init o n name v o.ifs o.block)
 in_loop_why most o n (l.ElseIf x) = plain n most (branched o n (opened.Test n x) o.ifs) (plain_branched o n (opened.Test n x) o.ifs)
 in_loop_why most o n l.Else = plain n most (branched o n (opened.Else n) o.ifs) (plain_branched o n (opened.Else n) o.ifs)
 in_loop_why most o n l.End = plain n most (ended o n o.ifs) (plain_ended o n o.ifs)
+in_loop_why most o n l.SkipFaults = plain n most (Err (BadNesting n)) refl
 in_loop_why most o n (l.Var name v) = plain n most (Err (BadNesting n)) refl
 in_loop_why most o n (l.For h) = plain n most (Err (BadNesting n)) refl
 in_loop_why most o n (l.Print name) = plain n most (Err (BadNesting n)) refl
 in_loop_why most o n _ = tt
 
-plain_vars : (vars : List Binding) (n : ℕ) (form : Line) → Plain n (in_vars vars n form)
-plain_vars vars n (l.Var name v) = tt
-plain_vars vars n (l.For h) = tt
-plain_vars vars n _ = refl
+plain_vars : (q : Preface) (n : ℕ) (form : Line) → Plain n (in_vars q n form)
+plain_vars q n (l.Var name v) = tt
+plain_vars q n (l.For h) = tt
+plain_vars q n _ = refl
+
+plain_start : (n : ℕ) (form : Line) → Plain n (at_start n form)
+plain_start n l.SkipFaults = tt
+plain_start n form = plain_vars no_preface n form
 
 plain_prints : (p : ProgramTree) (n : ℕ) (form : Line) → Plain n (in_prints p n form)
 plain_prints p n (l.Print name) = tt
 plain_prints p n _ = refl
 
 pub why : (most : ℕ) (at : Stage) (x : NumberedLine) → Reason (λ room. step room at x) x.line most (step most at x)
-why most (stage.Vars vars) x = plain x.line most (in_vars vars x.line x.form) (plain_vars vars x.line x.form)
+why most stage.Start x = plain x.line most (at_start x.line x.form) (plain_start x.line x.form)
+why most (stage.Vars q) x = plain x.line most (in_vars q x.line x.form) (plain_vars q x.line x.form)
 why most (stage.Loop o) x = in_loop_why most o x.line x.form
 why most (stage.Prints p) x = plain x.line most (in_prints p x.line x.form) (plain_prints p x.line x.form)
 
@@ -124,13 +130,14 @@ abbrev Ends : ℕ → Stage → Type 0
 Ends most at = (more : List NumberedLine) × (p : ProgramTree) × (run most at more ≡ Ok (stage.Prints p))
 
 loop_ends : (most : ℕ) (o : OpenLoop) (ifs : List OpenIf) (block : List Statement) → Ends most (stage.Loop (record o { ifs = ifs; block = block }))
-loop_ends most o [] block = (on 0 l.End ∷ [], whole_loop (record o { ifs = []; block = block }) 0, refl)
+loop_ends most o [] block = (on 0 l.End ∷ [], whole_loop o.front block 0, refl)
 loop_ends most o (f ∷ fs) block = let e = loop_ends most o fs (closed f block 0) in (on 0 l.End ∷ e.0, e.1, e.2)
 
 abbrev no_heads : Heads
 no_heads = record { names = []; axes = []; product = false; inner = [] }
 
 pub ends : (most : ℕ) (at : Stage) → Ends most at
-ends most (stage.Vars vars) = (on 0 (l.For no_heads) ∷ on 0 l.End ∷ [], whole_loop (entered vars 0 no_heads) 0, refl)
+ends most stage.Start = (on 0 (l.For no_heads) ∷ on 0 l.End ∷ [], whole_loop (entered no_preface 0 no_heads).front [] 0, refl)
+ends most (stage.Vars q) = (on 0 (l.For no_heads) ∷ on 0 l.End ∷ [], whole_loop (entered q 0 no_heads).front [] 0, refl)
 ends most (stage.Loop o) = loop_ends most o o.ifs o.block
 ends most (stage.Prints p) = ([], p, refl)

@@ -1,5 +1,5 @@
 -- What is read to the end is the lines of that program.
-use Rattle.std.proofs.Common.{◌≡◌, ℕ, ◌+◌, ◌≤◌, zero, suc, nat_lt, Bool, true, false, List, [], ◌∷◌, ◌++◌, length, Result, Ok, Err, if◌then◌else◌, refl, ap, sym, ◌∙◌, subst, append_assoc, append-nil, arith}
+use Rattle.std.proofs.Common.{◌≡◌, ℕ, ◌+◌, ◌≤◌, zero, suc, nat_lt, Bool, true, false, List, [], ◌∷◌, ◌++◌, length, Option, Some, None, Result, Ok, Err, if◌then◌else◌, refl, ap, sym, ◌∙◌, subst, append_assoc, append-nil, arith}
 use Rattle.std.proofs.lemmas.Bool.{ltb-true}
 use Rattle.loop_data.specs.declared.value.Value.{Value}
 use Rattle.loop_data.specs.declared.expr.Expr.{Expr}
@@ -15,14 +15,15 @@ use Rattle.loop_grammar.specs.declared.line.NumberedLine.{NumberedLine}
 use Rattle.loop_grammar.specs.declared.tree.ProgramTree.{ProgramTree}
 use Rattle.loop_grammar.specs.declared.refusal.SyntaxRefusal.{SyntaxRefusal}
 use Rattle.loop_grammar.specs.declared.refusal.SyntaxRefusal.TheVariants.{TooDeep}
-use Rattle.loop_grammar.specs.Nesting.{on, head_line, NestsStatement, NestsBlock, NestsParts, NestsVars, NestsInits, NestsPrints, Nests}
+use Rattle.loop_grammar.specs.Nesting.{on, NestsStatement, NestsBlock, NestsParts, NestsSkip, NestsVars, NestsInits, NestsPrints, Nests}
 use Rattle.loop_nesting.specs.declared.open.Stage.{Stage}
 use Rattle.loop_nesting.specs.declared.open.Stage.TheVariants as stage
+use Rattle.loop_nesting.specs.declared.open.Preface.{Preface}
 use Rattle.loop_nesting.specs.declared.open.OpenLoop.{OpenLoop}
 use Rattle.loop_nesting.specs.declared.open.OpenIf.{OpenIf}
 use Rattle.loop_nesting.specs.declared.open.Opened.{Opened}
 use Rattle.loop_nesting.specs.declared.open.Opened.TheVariants as opened
-use Rattle.loop_nesting.specs.Reading.{Answer, in_vars, in_loop, in_prints, init, deeper, branched, onward, next_branch, ended, closed, whole_if, entered, step, run, run_on}
+use Rattle.loop_nesting.specs.Reading.{Answer, no_preface, add_var, at_start, in_vars, in_loop, in_prints, with_scratch, init_at, deeper, branched, onward, next_branch, ended, closed, whole_if, whole_loop, entered, step, run, run_on}
 
 -- ---- what is still to come
 
@@ -104,7 +105,7 @@ record RestBody (most : ℕ) (o : OpenLoop) (p : ProgramTree) (ls : List Numbere
   fits : room + length o.ifs ≡ most
   goes : Goes room o.ifs o.block body ls (on m l.End ∷ behind)
   printed : NestsPrints prints behind
-  whole : p ≡ record { vars = o.vars; head = head_line o.line o.heads m; scratch = o.scratch; body = body; prints = prints }
+  whole : p ≡ record (whole_loop o.front body m) { prints = prints }
 
 abbrev MayInit : List Binding → OpenLoop → Type 0
 MayInit [] o = Unit {0}
@@ -116,34 +117,45 @@ record RestLoop (most : ℕ) (o : OpenLoop) (p : ProgramTree) (ls : List Numbere
   mid : List NumberedLine
   may : MayInit inits o
   nests : NestsInits inits ls mid
-  goes_on : RestBody most (record o { scratch = o.scratch ++ inits }) p mid
+  goes_on : RestBody most (with_scratch o (o.front.scratch ++ inits)) p mid
 
-record RestVars (most : ℕ) (vars : List Binding) (p : ProgramTree) (ls : List NumberedLine) : Type 0 where
+-- the preface with these `var` lines more
+abbrev and_vars : Preface → List Binding → Preface
+and_vars q more = record q { vars = q.vars ++ more }
+
+record RestVars (most : ℕ) (q : Preface) (p : ProgramTree) (ls : List NumberedLine) : Type 0 where
   more : List Binding
   n : ℕ
   h : Heads
   us : List NumberedLine
   nests : NestsVars more ls (on n (l.For h) ∷ us)
-  loop : RestLoop most (entered (vars ++ more) n h) p us
+  loop : RestLoop most (entered (and_vars q more) n h) p us
+
+record RestStart (most : ℕ) (p : ProgramTree) (ls : List NumberedLine) : Type 0 where
+  skip : Option ℕ
+  mid : List NumberedLine
+  nests : NestsSkip skip ls mid
+  goes_on : RestVars most (record { skip_line = skip; vars = [] }) p mid
 
 abbrev Rest : ℕ → Stage → ProgramTree → List NumberedLine → Type 0
-Rest most (stage.Vars vars) p ls = RestVars most vars p ls
+Rest most stage.Start p ls = RestStart most p ls
+Rest most (stage.Vars q) p ls = RestVars most q p ls
 Rest most (stage.Loop o) p ls = RestLoop most o p ls
 Rest most (stage.Prints q) p ls = (prints : List PrintLine) × NestsPrints prints ls × (p ≡ record q { prints = q.prints ++ prints })
 
 from_body : (most : ℕ) (o : OpenLoop) (p : ProgramTree) (ls : List NumberedLine) → RestBody most o p ls → RestLoop most o p ls
 from_body most o p ls b =
-    let P : List Binding → Type 0 = λ z. RestBody most (record o { scratch = z }) p ls in
-    record { inits = []; mid = ls; may = tt; nests = NestsInits.none; goes_on = subst P (sym (append-nil o.scratch)) b }
+    let P : List Binding → Type 0 = λ z. RestBody most (with_scratch o z) p ls in
+    record { inits = []; mid = ls; may = tt; nests = NestsInits.none; goes_on = subst P (sym (append-nil o.front.scratch)) b }
 
 -- past the first statement no `@init` line comes
 abbrev IsStale : OpenLoop → Type 0
 IsStale o = o.ifs ≡ [] → o.block ≡ [] → ⊥
 
 to_body_at : (most : ℕ) (o : OpenLoop) (p : ProgramTree) (ls mid : List NumberedLine) (is : List Binding) → IsStale o → MayInit is o → NestsInits is ls mid →
-    RestBody most (record o { scratch = o.scratch ++ is }) p mid → RestBody most o p ls
+    RestBody most (with_scratch o (o.front.scratch ++ is)) p mid → RestBody most o p ls
 to_body_at most o p ls mid [] stale may NestsInits.none b =
-    let P : List Binding → Type 0 = λ z. RestBody most (record o { scratch = z }) p ls in subst P (append-nil o.scratch) b
+    let P : List Binding → Type 0 = λ z. RestBody most (with_scratch o z) p ls in subst P (append-nil o.front.scratch) b
 to_body_at most o p ls mid (i ∷ is) stale may h b = absurd (stale may.0 may.1)
 
 to_body : (most : ℕ) (o : OpenLoop) (p : ProgramTree) (ls : List NumberedLine) → IsStale o → RestLoop most o p ls → RestBody most o p ls
@@ -279,15 +291,15 @@ ended_back most o p m ls (f ∷ fs) h = λ r.
     }))
 
 init_back : (most : ℕ) (o : OpenLoop) (p : ProgramTree) (n : ℕ) (name : List ℕ) (v : Value) (ls : List NumberedLine) (ifs : List OpenIf) (block : List Statement) →
-    Back most (stage.Loop (record o { ifs = ifs; block = block })) p (on n (l.Init name v)) ls (init (record o { ifs = ifs; block = block }) n name v ifs block)
+    Back most (stage.Loop (record o { ifs = ifs; block = block })) p (on n (l.Init name v)) ls (init_at (record o { ifs = ifs; block = block }) n name v ifs block)
 init_back most o p n name v ls [] [] = λ r.
-    (let P : List Binding → Type 0 = λ z. RestBody most (record o { scratch = z; ifs = []; block = [] }) p r.mid in
+    (let P : List Binding → Type 0 = λ z. RestBody most (record (with_scratch o z) { ifs = []; block = [] }) p r.mid in
     record {
       inits = record { line = n; name = name; value = v } ∷ r.inits;
       mid = r.mid;
       may = (refl, refl);
       nests = NestsInits.more r.nests;
-      goes_on = subst P (append_assoc o.scratch (record { line = n; name = name; value = v } ∷ []) r.inits) r.goes_on;
+      goes_on = subst P (append_assoc o.front.scratch (record { line = n; name = name; value = v } ∷ []) r.inits) r.goes_on;
     })
 init_back most o p n name v ls [] (x ∷ block) = tt
 init_back most o p n name v ls (f ∷ ifs) block = tt
@@ -312,25 +324,36 @@ in_loop_back most o p n (l.ElseIf x) ls h = branched_back_elseif most o p n x ls
 in_loop_back most o p n l.Else ls h = branched_back_else most o p n ls o.ifs
 in_loop_back most o p n l.End ls h = ended_back most o p n ls o.ifs h
 in_loop_back most o p n (l.Init name v) ls h = init_back most o p n name v ls o.ifs o.block
+in_loop_back most o p n l.SkipFaults ls h = tt
 in_loop_back most o p n (l.Var name v) ls h = tt
 in_loop_back most o p n (l.For heads) ls h = tt
 in_loop_back most o p n (l.Print name) ls h = tt
 
-in_vars_back : (most : ℕ) (vars : List Binding) (p : ProgramTree) (n : ℕ) (form : Line) (ls : List NumberedLine) → Back most (stage.Vars vars) p (on n form) ls (in_vars vars n form)
-in_vars_back most vars p n (l.Var name v) ls = λ r.
-    (let P : List Binding → Type 0 = λ z. RestLoop most (entered z r.n r.h) p r.us in
+in_vars_back : (most : ℕ) (q : Preface) (p : ProgramTree) (n : ℕ) (form : Line) (ls : List NumberedLine) → Back most (stage.Vars q) p (on n form) ls (in_vars q n form)
+in_vars_back most q p n (l.Var name v) ls = λ r.
+    (let P : List Binding → Type 0 = λ z. RestLoop most (entered (record q { vars = z }) r.n r.h) p r.us in
     record {
       more = record { line = n; name = name; value = v } ∷ r.more;
       n = r.n;
       h = r.h;
       us = r.us;
       nests = NestsVars.more r.nests;
-      loop = subst P (append_assoc vars (record { line = n; name = name; value = v } ∷ []) r.more) r.loop;
+      loop = subst P (append_assoc q.vars (record { line = n; name = name; value = v } ∷ []) r.more) r.loop;
     })
-in_vars_back most vars p n (l.For h) ls = λ r.
-    (let P : List Binding → Type 0 = λ z. RestLoop most (entered z n h) p ls in
-    record { more = []; n = n; h = h; us = ls; nests = NestsVars.none; loop = subst P (sym (append-nil vars)) r })
-in_vars_back most vars p n _ ls = tt
+in_vars_back most q p n (l.For h) ls = λ r.
+    (let P : List Binding → Type 0 = λ z. RestLoop most (entered (record q { vars = z }) n h) p ls in
+    record { more = []; n = n; h = h; us = ls; nests = NestsVars.none; loop = subst P (sym (append-nil q.vars)) r })
+in_vars_back most q p n _ ls = tt
+
+-- a first line that is no `on fault skip`
+without_skip : (most n : ℕ) (p : ProgramTree) (form : Line) (ls : List NumberedLine) → RestVars most no_preface p (on n form ∷ ls) → RestStart most p (on n form ∷ ls)
+without_skip most n p form ls r = record { skip = None; mid = on n form ∷ ls; nests = NestsSkip.none; goes_on = r }
+
+at_start_back : (most : ℕ) (p : ProgramTree) (n : ℕ) (form : Line) (ls : List NumberedLine) → Back most stage.Start p (on n form) ls (at_start n form)
+at_start_back most p n l.SkipFaults ls = λ r. record { skip = Some n; mid = ls; nests = NestsSkip.one; goes_on = r }
+at_start_back most p n (l.Var name v) ls = λ r. without_skip most n p (l.Var name v) ls (in_vars_back most no_preface p n (l.Var name v) ls r)
+at_start_back most p n (l.For h) ls = λ r. without_skip most n p (l.For h) ls (in_vars_back most no_preface p n (l.For h) ls r)
+at_start_back most p n _ ls = tt
 
 in_prints_back : (most : ℕ) (q p : ProgramTree) (n : ℕ) (form : Line) (ls : List NumberedLine) → Back most (stage.Prints q) p (on n form) ls (in_prints q n form)
 in_prints_back most q p n (l.Print name) ls = λ (ps, h, e).
@@ -338,13 +361,14 @@ in_prints_back most q p n (l.Print name) ls = λ (ps, h, e).
 in_prints_back most q p n _ ls = tt
 
 back : (most : ℕ) (at : Stage) (p : ProgramTree) (x : NumberedLine) (ls : List NumberedLine) → IsFitting most at → Back most at p x ls (step most at x)
-back most (stage.Vars vars) p x ls h = in_vars_back most vars p x.line x.form ls
+back most stage.Start p x ls h = at_start_back most p x.line x.form ls
+back most (stage.Vars q) p x ls h = in_vars_back most q p x.line x.form ls
 back most (stage.Loop o) p x ls h = in_loop_back most o p x.line x.form ls h
 back most (stage.Prints q) p x ls h = in_prints_back most q p x.line x.form ls
 
 -- ---- the open `if`s stay within the room
 
-init_fits : (most : ℕ) (o : OpenLoop) (n : ℕ) (name : List ℕ) (v : Value) (ifs : List OpenIf) (block : List Statement) → length o.ifs ≤ most → AreFitting most (init o n name v ifs block)
+init_fits : (most : ℕ) (o : OpenLoop) (n : ℕ) (name : List ℕ) (v : Value) (ifs : List OpenIf) (block : List Statement) → length o.ifs ≤ most → AreFitting most (init_at o n name v ifs block)
 init_fits most o n name v [] [] h = h
 init_fits most o n name v [] (x ∷ block) h = tt
 init_fits most o n name v (f ∷ ifs) block h = tt
@@ -371,22 +395,28 @@ in_loop_fits most o n (l.ElseIf x) h = branched_fits most o n (opened.Test n x) 
 in_loop_fits most o n l.Else h = branched_fits most o n (opened.Else n) o.ifs h
 in_loop_fits most o n l.End h = ended_fits most o n o.ifs h
 in_loop_fits most o n (l.Init name v) h = init_fits most o n name v o.ifs o.block h
+in_loop_fits most o n l.SkipFaults h = tt
 in_loop_fits most o n (l.Var name v) h = tt
 in_loop_fits most o n (l.For heads) h = tt
 in_loop_fits most o n (l.Print name) h = tt
 in_loop_fits most o n _ h = h
 
-in_vars_fits : (most : ℕ) (vars : List Binding) (n : ℕ) (form : Line) → AreFitting most (in_vars vars n form)
-in_vars_fits most vars n (l.Var name v) = tt
-in_vars_fits most vars n (l.For h) = omega arith
-in_vars_fits most vars n _ = tt
+in_vars_fits : (most : ℕ) (q : Preface) (n : ℕ) (form : Line) → AreFitting most (in_vars q n form)
+in_vars_fits most q n (l.Var name v) = tt
+in_vars_fits most q n (l.For h) = omega arith
+in_vars_fits most q n _ = tt
+
+at_start_fits : (most n : ℕ) (form : Line) → AreFitting most (at_start n form)
+at_start_fits most n l.SkipFaults = tt
+at_start_fits most n form = in_vars_fits most no_preface n form
 
 in_prints_fits : (most : ℕ) (q : ProgramTree) (n : ℕ) (form : Line) → AreFitting most (in_prints q n form)
 in_prints_fits most q n (l.Print name) = tt
 in_prints_fits most q n _ = tt
 
 fits_step : (most : ℕ) (at : Stage) (x : NumberedLine) → IsFitting most at → AreFitting most (step most at x)
-fits_step most (stage.Vars vars) x h = in_vars_fits most vars x.line x.form
+fits_step most stage.Start x h = at_start_fits most x.line x.form
+fits_step most (stage.Vars q) x h = in_vars_fits most q x.line x.form
 fits_step most (stage.Loop o) x h = in_loop_fits most o x.line x.form h
 fits_step most (stage.Prints q) x h = in_prints_fits most q x.line x.form
 
@@ -403,13 +433,14 @@ all_rest most at p (x ∷ ls) h e =
       | Err r ↦ λ k fit same. cc
     ] (back most at p x ls h) (fits_step most at x h) e
 
-pub sound : (most : ℕ) (p : ProgramTree) (ls : List NumberedLine) → run most (stage.Vars []) ls ≡ Ok (stage.Prints p) → Nests (suc most) p ls
+pub sound : (most : ℕ) (p : ProgramTree) (ls : List NumberedLine) → run most stage.Start ls ≡ Ok (stage.Prints p) → Nests (suc most) p ls
 sound most p ls e =
-    let r : RestVars most [] p ls = all_rest most (stage.Vars []) p ls tt e in
+    let t : RestStart most p ls = all_rest most stage.Start p ls tt e in
+    let r = t.goes_on in
     let b = r.loop.goes_on in
     let P : ProgramTree → Type 0 = λ z. Nests (suc most) z ls in
     let Q : List NumberedLine → Type 0 = λ z. NestsBlock b.room b.goes.0 r.loop.mid z in
     let R : List Statement → Type 0 = λ z. NestsBlock b.room z r.loop.mid (on b.m l.End ∷ b.behind) in
     let S : ℕ → Type 0 = λ z. NestsBlock z b.body r.loop.mid (on b.m l.End ∷ b.behind) in
     let block : NestsBlock most b.body r.loop.mid (on b.m l.End ∷ b.behind) = subst S (let f = b.fits in omega arith) (subst R b.goes.3.1 (subst Q b.goes.3.0 b.goes.2)) in
-    subst P (sym b.whole) (Nests.program r.nests r.loop.nests block b.printed)
+    subst P (sym b.whole) (Nests.program t.nests r.nests r.loop.nests block b.printed)

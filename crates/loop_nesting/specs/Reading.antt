@@ -1,6 +1,6 @@
 -- What the reader of lines does, line by line. Apart from the grammar, and tied to it in proofs/.
 -- Source: this project.
-use Rattle.std.specs.Prelude.{ℕ, nat_lt, List, [], ◌∷◌, ◌++◌, length, Result, Ok, Err, if◌then◌else◌}
+use Rattle.std.specs.Prelude.{ℕ, nat_lt, Option, Some, None, List, [], ◌∷◌, ◌++◌, length, Result, Ok, Err, if◌then◌else◌}
 use Rattle.loop_data.specs.declared.value.Value.{Value}
 use Rattle.loop_data.specs.declared.expr.Expr.{Expr}
 use Rattle.loop_data.specs.declared.statement.Statement.{Statement}
@@ -16,6 +16,8 @@ use Rattle.loop_grammar.specs.declared.refusal.SyntaxRefusal.TheVariants.{BadNes
 use Rattle.loop_grammar.specs.Nesting.{head_line}
 use Rattle.loop_nesting.specs.declared.open.Stage.{Stage}
 use Rattle.loop_nesting.specs.declared.open.Stage.TheVariants as stage
+use Rattle.loop_nesting.specs.declared.open.Preface.{Preface}
+use Rattle.loop_nesting.specs.declared.open.LoopFront.{LoopFront}
 use Rattle.loop_nesting.specs.declared.open.OpenLoop.{OpenLoop}
 use Rattle.loop_nesting.specs.declared.open.OpenIf.{OpenIf}
 use Rattle.loop_nesting.specs.declared.open.Opened.{Opened}
@@ -31,21 +33,41 @@ most_ifs = 15
 
 -- one line more before the loop
 
--- the loop of the `for` line, before its body
-abbrev pub entered : List Binding → ℕ → Heads → OpenLoop
-entered vars n h = record { vars = vars; line = n; heads = h; scratch = []; ifs = []; block = [] }
+-- nothing before the loop
+abbrev pub no_preface : Preface
+no_preface = record { skip_line = None; vars = [] }
 
-abbrev pub in_vars : List Binding → ℕ → Line → Answer
-in_vars vars n (l.Var name v) = Ok (stage.Vars (vars ++ record { line = n; name = name; value = v } ∷ []))
-in_vars vars n (l.For h) = Ok (stage.Loop (entered vars n h))
-in_vars vars n _ = Err (BadNesting n)
+-- one more `var` line
+abbrev pub add_var : Preface → Binding → Preface
+add_var q b = record q { vars = q.vars ++ b ∷ [] }
+
+-- the loop of the `for` line, before its body
+abbrev pub entered : Preface → ℕ → Heads → OpenLoop
+entered q n h = record { front = record { preface = q; line = n; heads = h; scratch = [] }; ifs = []; block = [] }
+
+abbrev pub in_vars : Preface → ℕ → Line → Answer
+in_vars q n (l.Var name v) = Ok (stage.Vars (add_var q (record { line = n; name = name; value = v })))
+in_vars q n (l.For h) = Ok (stage.Loop (entered q n h))
+in_vars q n _ = Err (BadNesting n)
+
+-- the first line: `on fault skip` may stand there alone
+abbrev pub at_start : ℕ → Line → Answer
+at_start n l.SkipFaults = Ok (stage.Vars (record { skip_line = Some n; vars = [] }))
+at_start n form = in_vars no_preface n form
 
 -- one line more within the loop
 
+-- the loop with these `@init` lines
+abbrev pub with_scratch : OpenLoop → List Binding → OpenLoop
+with_scratch o scratch = record o { front = record o.front { scratch = scratch } }
+
 -- an `@init` line, with the open `if`s and the block so far
-abbrev pub init : OpenLoop → ℕ → List ℕ → Value → List OpenIf → List Statement → Answer
-init o n name v [] [] = Ok (stage.Loop (record o { scratch = o.scratch ++ record { line = n; name = name; value = v } ∷ [] }))
-init o n name v _ _ = Err (BadNesting n)
+abbrev pub init_at : OpenLoop → ℕ → List ℕ → Value → List OpenIf → List Statement → Answer
+init_at o n name v [] [] = Ok (stage.Loop (with_scratch o (o.front.scratch ++ record { line = n; name = name; value = v } ∷ [])))
+init_at o n name v _ _ = Err (BadNesting n)
+
+abbrev pub init : OpenLoop → ℕ → List ℕ → Value → Answer
+init o n name v = init_at o n name v o.ifs o.block
 
 -- a statement of one line
 abbrev pub put : OpenLoop → Statement → Answer
@@ -85,17 +107,18 @@ whole_if f block m = elim f.opened as (λ _. Statement) [
 abbrev pub closed : OpenIf → List Statement → ℕ → List Statement
 closed f block m = f.before ++ whole_if f block m ∷ []
 
--- the program of the loop that ends on line m
-abbrev pub whole_loop : OpenLoop → ℕ → ProgramTree
-whole_loop o m = record { vars = o.vars; head = head_line o.line o.heads m; scratch = o.scratch; body = o.block; prints = [] }
+-- the program of the loop with this body that ends on line m
+abbrev pub whole_loop : LoopFront → List Statement → ℕ → ProgramTree
+whole_loop f body m =
+    record { skip_line = f.preface.skip_line; vars = f.preface.vars; head = head_line f.line f.heads m; scratch = f.scratch; body = body; prints = [] }
 
 -- an `end` line, with the open `if`s
 abbrev pub ended : OpenLoop → ℕ → List OpenIf → Answer
-ended o m [] = Ok (stage.Prints (whole_loop o m))
+ended o m [] = Ok (stage.Prints (whole_loop o.front o.block m))
 ended o m (f ∷ fs) = Ok (stage.Loop (record o { ifs = fs; block = closed f o.block m }))
 
 abbrev pub in_loop : ℕ → OpenLoop → ℕ → Line → Answer
-in_loop most o n (l.Init name v) = init o n name v o.ifs o.block
+in_loop most o n (l.Init name v) = init o n name v
 in_loop most o n (l.Let names x) = put o (s.Let n names x)
 in_loop most o n (l.Set name x) = put o (s.Set n name x)
 in_loop most o n (l.Keep name x) = put o (s.Keep n name x)
@@ -106,6 +129,7 @@ in_loop most o n (l.If x) = deeper most o n x
 in_loop most o n (l.ElseIf x) = branched o n (opened.Test n x) o.ifs
 in_loop most o n l.Else = branched o n (opened.Else n) o.ifs
 in_loop most o n l.End = ended o n o.ifs
+in_loop most o n l.SkipFaults = Err (BadNesting n)
 in_loop most o n (l.Var name v) = Err (BadNesting n)
 in_loop most o n (l.For h) = Err (BadNesting n)
 in_loop most o n (l.Print name) = Err (BadNesting n)
@@ -117,7 +141,8 @@ in_prints p n _ = Err (BadNesting n)
 
 -- one line more
 abbrev pub step : ℕ → Stage → NumberedLine → Answer
-step most (stage.Vars vars) x = in_vars vars x.line x.form
+step most stage.Start x = at_start x.line x.form
+step most (stage.Vars q) x = in_vars q x.line x.form
 step most (stage.Loop o) x = in_loop most o x.line x.form
 step most (stage.Prints p) x = in_prints p x.line x.form
 
@@ -139,4 +164,4 @@ finish end (Err r) = Err r
 
 -- the whole answer
 abbrev pub answer : List NumberedLine → ℕ → Result ProgramTree SyntaxRefusal
-answer lines end = finish end (run most_ifs (stage.Vars []) lines)
+answer lines end = finish end (run most_ifs stage.Start lines)

@@ -7,22 +7,38 @@ use loop_grammar::{Heads, ProgramTree};
 /// How far the lines have been read.
 #[derive(Drop)]
 pub enum Stage {
-    /// Nothing but `var` lines.
-    Vars(Many<Binding>),
+    /// No line.
+    Start,
+    /// The line `on fault skip` or `var` lines or both, and nothing else.
+    Vars(Preface),
     /// A place within the loop.
     Loop(OpenLoop),
     /// Past the loop, where only `print` lines may follow.
     Prints(ProgramTree),
 }
 
-/// A loop whose `end` hasn't come.
+/// What stands before the loop.
 #[derive(Drop)]
-pub struct OpenLoop {
+pub struct Preface {
+    /// The line of `on fault skip`, where it stands.
+    pub skip_line: Option<u32>,
     pub vars: Many<Binding>,
+}
+
+/// What stands before the first statement of the loop's body.
+#[derive(Drop)]
+pub struct LoopFront {
+    pub preface: Preface,
     /// The line of the `for`.
     pub line: u32,
     pub heads: Heads,
     pub scratch: Many<Binding>,
+}
+
+/// A loop whose `end` hasn't come.
+#[derive(Drop)]
+pub struct OpenLoop {
+    pub front: LoopFront,
     /// The `if`s that are open, the innermost first.
     pub ifs: Stack<OpenIf>,
     /// The statements so far of the innermost open block.

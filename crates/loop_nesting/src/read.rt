@@ -3,11 +3,11 @@
 ghost use Rattle.std.specs.Prelude.{◌≡◌, ◌≢◌, [], Ok, Err, IfOk};
 ghost use Rattle.loop_grammar.specs.declared.refusal.SyntaxRefusal.TheVariants as refusal;
 ghost use Rattle.loop_grammar.specs.Nesting.{Nests, most_blocks};
-ghost use Rattle.loop_nesting.specs.Reading.{step, in_vars, in_loop, in_prints, init, deeper, branched, ended, put, entered, closed, next_branch, run, finish, most_ifs};
+ghost use Rattle.loop_nesting.specs.Reading.{step, at_start, in_vars, in_loop, in_prints, init, deeper, branched, ended, put, entered, whole_loop, closed, next_branch, run, finish, most_ifs};
 ghost use Rattle.loop_nesting.specs.declared.open.Stage.TheVariants as stage;
 ghost use Rattle.loop_nesting.specs.Claims.{RefusesNesting};
 
-use crate::open::{OpenIf, OpenLoop, Opened, Stage};
+use crate::open::{LoopFront, OpenIf, OpenLoop, Opened, Preface, Stage};
 use crate::stack::Stack;
 use loop_data::{Binding, Branch, Expr, HeadLine, Many, PrintLine, Statement, TextValue, Value};
 use loop_grammar::{Heads, Line, NumberedLine, ProgramTree, SyntaxRefusal};
@@ -115,16 +115,52 @@ impl OpenIf {
     }
 }
 
+impl LoopFront {
+    /// The program of the loop with this body that ends on the line, with no `print` line yet.
+    fn whole_loop(self, alloc: Global, body: Many<Statement>, end_line: u32) -> ProgramTree
+        ensures { result ≡ whole_loop self body end_line }
+    {
+        let LoopFront {
+            preface: Preface { skip_line, vars },
+            line,
+            heads: Heads {
+                names,
+                axes,
+                product,
+                inner,
+            },
+            scratch,
+        } = self;
+        ProgramTree {
+            skip_line,
+            vars,
+            head: HeadLine {
+                line,
+                names,
+                axes,
+                product,
+                inner,
+                end_line,
+            },
+            scratch,
+            body,
+            prints: Many::new(alloc),
+        }
+    }
+}
+
 impl OpenLoop {
     /// The loop of a `for` line, before its body.
-    fn entered(alloc: Global, vars: Many<Binding>, line: u32, heads: Heads) -> OpenLoop
-        ensures { result ≡ entered vars line heads }
+    fn entered(alloc: Global, preface: Preface, line: u32, heads: Heads) -> OpenLoop
+        ensures { result ≡ entered preface line heads }
     {
         OpenLoop {
-            vars,
-            line,
-            heads,
-            scratch: Many::new(alloc),
+            front: LoopFront {
+                preface,
+                line,
+                heads,
+                scratch: Many::new(alloc),
+            },
             ifs: Stack::new(alloc),
             block: Many::new(alloc),
         }
@@ -138,12 +174,14 @@ impl OpenLoop {
         name: TextValue,
         value: Value,
     ) -> Result<Stage, SyntaxRefusal>
-        ensures { result ≢ Err refusal.NoMemory → result ≡ init self line name value self.ifs self.block }
+        ensures { result ≢ Err refusal.NoMemory → result ≡ init self line name value }
     {
         if !self.ifs.is_empty() || !self.block.is_empty() {
             return Err(SyntaxRefusal::BadNesting { line });
         }
-        self.scratch.push(alloc, Binding { line, name, value })?;
+        self.front
+            .scratch
+            .push(alloc, Binding { line, name, value })?;
         Ok(Stage::Loop(self))
     }
 
@@ -163,10 +201,7 @@ impl OpenLoop {
             return Err(SyntaxRefusal::TooDeep { line });
         }
         let OpenLoop {
-            vars,
-            line: for_line,
-            heads,
-            scratch,
+            front,
             mut ifs,
             block,
         } = self;
@@ -177,10 +212,7 @@ impl OpenLoop {
             opened: Opened::Test { line, test },
         })?;
         Ok(Stage::Loop(OpenLoop {
-            vars,
-            line: for_line,
-            heads,
-            scratch,
+            front,
             ifs,
             block: Many::new(alloc),
         }))
@@ -191,10 +223,7 @@ impl OpenLoop {
         ensures { result ≢ Err refusal.NoMemory → result ≡ branched self line opened self.ifs }
     {
         let OpenLoop {
-            vars,
-            line: for_line,
-            heads,
-            scratch,
+            front,
             mut ifs,
             block,
         } = self;
@@ -203,10 +232,7 @@ impl OpenLoop {
         };
         ifs.push(innermost.next_branch(alloc, block, opened, line)?)?;
         Ok(Stage::Loop(OpenLoop {
-            vars,
-            line: for_line,
-            heads,
-            scratch,
+            front,
             ifs,
             block: Many::new(alloc),
         }))
@@ -217,44 +243,15 @@ impl OpenLoop {
         ensures { result ≢ Err refusal.NoMemory → result ≡ ended self end_line self.ifs }
     {
         let OpenLoop {
-            vars,
-            line,
-            heads,
-            scratch,
+            front,
             mut ifs,
             block,
         } = self;
         let Some(innermost) = ifs.pop() else {
-            let Heads {
-                names,
-                axes,
-                product,
-                inner,
-            } = heads;
-            return Ok(Stage::Prints(ProgramTree {
-                vars,
-                head: HeadLine {
-                    line,
-                    names,
-                    axes,
-                    product,
-                    inner,
-                    end_line,
-                },
-                scratch,
-                body: block,
-                prints: Many::new(alloc),
-            }));
+            return Ok(Stage::Prints(front.whole_loop(alloc, block, end_line)));
         };
         let block = innermost.closed(alloc, block, end_line)?;
-        Ok(Stage::Loop(OpenLoop {
-            vars,
-            line,
-            heads,
-            scratch,
-            ifs,
-            block,
-        }))
+        Ok(Stage::Loop(OpenLoop { front, ifs, block }))
     }
 
     /// One line more within the loop.
@@ -283,29 +280,46 @@ impl OpenLoop {
             Line::ElseIf(test) => self.branched(alloc, line, Opened::Test { line, test }),
             Line::Else => self.branched(alloc, line, Opened::Else { line }),
             Line::End => self.ended(alloc, line),
-            Line::Var { .. } | Line::For(_) | Line::Print(_) => {
+            Line::SkipFaults | Line::Var { .. } | Line::For(_) | Line::Print(_) => {
                 Err(SyntaxRefusal::BadNesting { line })
             }
         }
     }
 }
 
-/// One line more before the loop.
-fn in_vars(
-    alloc: Global,
-    mut vars: Many<Binding>,
-    line: u32,
-    form: Line,
-) -> Result<Stage, SyntaxRefusal>
-    ensures { result ≢ Err refusal.NoMemory → result ≡ in_vars vars line form }
+impl Preface {
+    /// Nothing but the line `on fault skip`, or nothing at all.
+    fn new(alloc: Global, skip_line: Option<u32>) -> Preface
+        ensures { result ≡ record { skip_line = skip_line; vars = [] } }
+    {
+        Preface {
+            skip_line,
+            vars: Many::new(alloc),
+        }
+    }
+
+    /// One line more before the loop.
+    fn in_vars(mut self, alloc: Global, line: u32, form: Line) -> Result<Stage, SyntaxRefusal>
+        ensures { result ≢ Err refusal.NoMemory → result ≡ in_vars self line form }
+    {
+        match form {
+            Line::Var { name, value } => {
+                self.vars.push(alloc, Binding { line, name, value })?;
+                Ok(Stage::Vars(self))
+            }
+            Line::For(heads) => Ok(Stage::Loop(OpenLoop::entered(alloc, self, line, heads))),
+            _ => Err(SyntaxRefusal::BadNesting { line }),
+        }
+    }
+}
+
+/// The first line.
+fn at_start(alloc: Global, line: u32, form: Line) -> Result<Stage, SyntaxRefusal>
+    ensures { result ≢ Err refusal.NoMemory → result ≡ at_start line form }
 {
     match form {
-        Line::Var { name, value } => {
-            vars.push(alloc, Binding { line, name, value })?;
-            Ok(Stage::Vars(vars))
-        }
-        Line::For(heads) => Ok(Stage::Loop(OpenLoop::entered(alloc, vars, line, heads))),
-        _ => Err(SyntaxRefusal::BadNesting { line }),
+        Line::SkipFaults => Ok(Stage::Vars(Preface::new(alloc, Some(line)))),
+        form => Preface::new(alloc, None).in_vars(alloc, line, form),
     }
 }
 
@@ -334,7 +348,8 @@ impl Stage {
     {
         let NumberedLine { line, form } = next;
         match self {
-            Stage::Vars(vars) => in_vars(alloc, vars, line, form),
+            Stage::Start => at_start(alloc, line, form),
+            Stage::Vars(preface) => preface.in_vars(alloc, line, form),
             Stage::Loop(open) => open.in_loop(alloc, line, form),
             Stage::Prints(program) => in_prints(alloc, program, line, form),
         }
@@ -346,16 +361,18 @@ impl Stage {
     {
         match self {
             Stage::Prints(program) => Ok(program),
-            Stage::Vars(_) | Stage::Loop(_) => Err(SyntaxRefusal::BadNesting { line: end }),
+            Stage::Start | Stage::Vars(_) | Stage::Loop(_) => {
+                Err(SyntaxRefusal::BadNesting { line: end })
+            }
         }
     }
 }
 
 /// Reads all lines.
 fn run(alloc: Global, mut lines: VecDeque<NumberedLine>) -> Result<Stage, SyntaxRefusal>
-    ensures { result ≢ Err refusal.NoMemory → result ≡ run most_ifs (stage.Vars []) lines.items }
+    ensures { result ≢ Err refusal.NoMemory → result ≡ run most_ifs stage.Start lines.items }
 {
-    let mut stage = Stage::Vars(Many::new(alloc));
+    let mut stage = Stage::Start;
     while let Some(line) = lines.pop_front() {
         stage = stage.step(alloc, line)?;
     }

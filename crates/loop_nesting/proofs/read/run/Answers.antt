@@ -2,9 +2,6 @@ use Rattle.std.proofs.Common.{rules, refl, sym, ◌∙◌}
 use Rattle.loop_nesting.proofs.Answers.{step_on, refused_on, all_read, shorter, empty}
 use Rattle.loop_nesting.proofs.read.run.Goals as goal
 
-pub loop-line-init : goal.loop-line-init
-loop-line-init c = rw c.new.ensures
-
 pub returns-in_err-stage : goal.returns-in_err-stage
 returns-in_err-stage c =
     refused_on c.loop-line.stage c.in-Some.line c.pop_front.new.self.items c.loop-line.lines.items c.args.lines.items c.in_err-stage.field-0.0 c.from_residual.result _ c.in-Some.ensures.items refl
