@@ -10,7 +10,7 @@ use Rattle.loop_data.specs.declared.head.Inner.{Inner}
 use Rattle.loop_data.specs.declared.head.PrintLine.{PrintLine}
 use Rattle.loop_grammar.specs.declared.tree.ProgramTree.{ProgramTree}
 use Rattle.loop_grammar.specs.declared.line.NumberedLine.{NumberedLine}
-use Rattle.loop_grammar.specs.Nesting.{NestsStatement, NestsBlock, NestsParts, NestsVars, NestsInits, NestsPrints, Nests, head_line}
+use Rattle.loop_grammar.specs.Nesting.{NestsStatement, NestsBlock, NestsParts, NestsSkip, NestsVars, NestsInits, NestsPrints, Nests, head_line}
 use Rattle.loop_grammar.specs.Texts.{AllSay}
 use Rattle.legality_rules.specs.Scopes.{Scope}
 use Rattle.legality_rules.specs.Lines.{Entry, Listing, Listed, in_turn, branches_in_turn, statement_listing, branch_listing, var_listing, head_listing, inner_listing, init_listing, print_listing}
@@ -177,6 +177,10 @@ vars_rise (NestsVars.more {n = k} {name = name} {v = v} {bs = bs} {rest = rest} 
     let b : Binding = record { line = k; name = name; value = v } in
     line_and_more n k rest (var_listing b) (map var_listing bs) r.0 (λ scope. (on_its_line n k r.0, tt)) (vars_rise others (k + 1) r.1)
 
+skip_rises : {skip : Option ℕ} {from rest : List NumberedLine} → NestsSkip skip from rest → (n : ℕ) → Rises n from → Rises n rest
+skip_rises NestsSkip.none n r = r
+skip_rises (NestsSkip.one {n = k} {rest = rest}) n r = let h : n ≤ k = r.0 in rises_from n (k + 1) rest (omega arith) r.1
+
 inits_rise : {bs : List Binding} {from rest : List NumberedLine} → NestsInits bs from rest → (n : ℕ) → Rises n from → RiseTo n rest (map init_listing bs)
 inits_rise NestsInits.none n r = nothing_rises n _ r
 inits_rise (NestsInits.more {n = k} {name = name} {v = v} {bs = bs} {rest = rest} others) n r =
@@ -202,8 +206,8 @@ inner_within h n o [] scope = tt
 inner_within h n o (i ∷ is) scope = let here : Listed = inner_listing h i scope in (on_its_line n h.line o, inner_within h n o is here.scope)
 
 pub program_rises : {r : ℕ} {p : ProgramTree} {lines : List NumberedLine} → Nests r p lines → (n : ℕ) → Rises n lines → (end : ℕ) × PartsRise n end (lines_in_turn p) []
-program_rises (Nests.program {n = k} {m = m} {vars = vars} {scratch = scratch} {h = h} {body = body} {prints = prints} a b c d) n r =
-    let vs = vars_rise a n r in
+program_rises (Nests.program {n = k} {m = m} {vars = vars} {scratch = scratch} {h = h} {body = body} {prints = prints} z a b c d) n r =
+    let vs = vars_rise a n (skip_rises z n r) in
     let head : HeadLine = head_line k h m in
     let line : Listing = together (head_listing head ∷ map (inner_listing head) head.inner) in
     let is = inits_rise b (k + 1) vs.1.1 in

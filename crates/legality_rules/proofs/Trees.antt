@@ -50,7 +50,7 @@ abbrev pub printed : ℕ → List ℕ → PrintLine
 printed line name = record { line = line; name = name }
 
 abbrev pub loop : List Binding → HeadLine → List Binding → List Statement → List PrintLine → ProgramTree
-loop vars head scratch body prints = record { vars = vars; head = head; scratch = scratch; body = body; prints = prints }
+loop vars head scratch body prints = record { skip_line = None; vars = vars; head = head; scratch = scratch; body = body; prints = prints }
 
 -- the line breaks the rule of this number at the name
 abbrev pub offends : ℕ → ℕ → List ℕ → Option Offence
