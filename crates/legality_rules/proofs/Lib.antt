@@ -1,0 +1,7 @@
+pub mod CutLemmas
+pub mod FirstLemmas
+pub mod Layers
+pub mod RisingLemmas
+pub mod RuleLemmas
+pub mod Trees
+pub mod Worked

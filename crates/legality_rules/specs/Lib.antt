@@ -1,0 +1,9 @@
+pub mod Cuts
+pub mod Laws
+pub mod Lines
+pub mod Offences
+pub mod Paths
+pub mod Rising
+pub mod Rules
+pub mod Scopes
+pub mod Towers
