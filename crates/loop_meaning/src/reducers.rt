@@ -227,11 +227,7 @@ fn named_inputs(
 ///
 /// It is for reference and for tests: one store lives on over all items, each expression is evaluated as it stands, and all
 /// inputs are kept. Refused only for want of memory.
-pub fn run_plain(
-    alloc: Global,
-    program: &Program,
-    items: &ItemList,
-) -> Result<PlainEnd, NoMemory>
+pub fn run_plain(alloc: Global, program: &Program, items: &ItemList) -> Result<PlainEnd, NoMemory>
     ensures { IfOk result (λ end. end ≡ plain_end program.now items.now) }
 {
     let store = start_store(alloc, program)?;

@@ -127,7 +127,14 @@ fn with_item(
     let mut store = run.store;
     let mut emitted = run.emitted;
     let before = emitted.len();
-    let end = step_plain(alloc, program, &mut store, item.copy(alloc)?, place, &mut emitted)?;
+    let end = step_plain(
+        alloc,
+        program,
+        &mut store,
+        item.copy(alloc)?,
+        place,
+        &mut emitted,
+    )?;
     if is_skipped(program, end) {
         return Ok(Run {
             store,
