@@ -1,0 +1,6 @@
+mod CopyLemmas
+mod DisplayLemmas
+mod KindLemmas
+mod RowLemmas
+mod TextLemmas
+mod TowerLemmas

@@ -1,0 +1,19 @@
+use Rattle.std.proofs.Common.{◌≡◌, to_z, of_z, w64, sym, subst, rules}
+use Rattle.std.specs.Prelude.{OnOk}
+use Rattle.loop_data.specs.ValueParts.{as_int}
+use Rattle.reducer_laws.specs.Numbers.{IsProduct}
+use Rattle.reducer_laws.specs.Standing.{TakesNext}
+use Rattle.reducer_laws.proofs.GroupLemmas.{on_ok}
+use Rattle.reducer_tower.specs.declared.state.TowerState.TheVariants as state
+use Rattle.reducer_tower.specs.Stands.{ProdStands}
+use Rattle.reducer_tower.proofs.TowerLemmas.{prod_taken}
+use Rattle.reducer_tower.proofs.leaves.prod_next.Goals as goal
+
+pub returns-in-Prod : goal.returns-in-Prod
+returns-in-Prod c =
+    let n = to_z w64 (of_z w64 c.as_int.result) in
+    let number : n ≡ as_int c.args.input = search rules in
+    let stood = subst (λ z. OnOk c.next.result (TakesNext IsProduct z n c.next.new.state)) c.in-Prod.product-is c.next.ensures.stands in
+    let taken = on_ok c.next.result (prod_taken c.in-Prod.product n c.next.new.state c.args.input number) stood in
+    let at = subst (λ s. OnOk c.next.result (TakesNext ProdStands s c.args.input (state.Prod c.next.new.state))) (sym c.in-Prod.is) taken in
+    subst (λ s. OnOk c.next.result (TakesNext ProdStands c.args.state.now c.args.input s)) (search rules) at

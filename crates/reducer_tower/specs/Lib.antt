@@ -1,0 +1,5 @@
+pub mod Inputs
+pub mod Laws
+pub mod Rows
+pub mod Stands
+pub mod Texts
