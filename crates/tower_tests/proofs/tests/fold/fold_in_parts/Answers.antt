@@ -1,6 +1,7 @@
 use Rattle.std.proofs.Common.{ℕ, List, take, drop, Result, Ok, Err, IfOk, take-append-drop, subst, length, length-drop, ◌≤◌, ◌-◌, arith}
 use Rattle.std.proofs.lemmas.List.{take_all}
 use Rattle.reducer_laws.specs.Standing.{TakesTogether}
+use Rattle.reducer_tower.specs.Stands.{Stands}
 use Rattle.tower_tests.proofs.tests.fold.fold_in_parts.Goals as goal
 
 -- what was merged of a list's two parts stands for the list
@@ -13,7 +14,7 @@ pub returns : goal.returns
 returns g c =
     let xs = c.args.inputs.now in
     let cut = c.args.cut in
-    let stands = g.R.Reducer.stands c.args.reducer.now in
+    let stands = Stands c.args.tower.now.kind in
     let long : length (drop cut xs) ≤ length xs - cut = omega (arith, length-drop cut xs) in
     whole stands c.merge.result xs cut c.in_ok-left.left c.in_ok-right.right
     c.in_ok-left.ensures
