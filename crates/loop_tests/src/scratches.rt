@@ -1,0 +1,70 @@
+//! The store: outer variables and scratches live on, and no other name does. Some of these loops break a rule of the language;
+//! they mean something all the same.
+
+use crate::run::{Row, check};
+use std::test::Fail;
+
+static STORES: [Row; 10] = [
+    (
+        "for x in 1:3\n@init b = 0\nb = x * 2\n@reduce s += b\nend\n",
+        "",
+        "ran; s: 2 4 6",
+    ),
+    // from item to item
+    (
+        "for x in 1:4\n@init b = 0\nif x == 2\nb = x\nend\n@reduce s += b\nend\n",
+        "",
+        "ran; s: 0 2 2 2",
+    ),
+    (
+        "var t = 0\nfor x in 1:3\nt = t + x\n@reduce s += t\nend\n",
+        "",
+        "ran; s: 1 3 6",
+    ),
+    // from body run to body run, and on to the next item
+    (
+        "for x in 1:2, y in 1:3\n@init b = 0\nb = b + y\n@reduce s += b\nend\n",
+        "",
+        "ran; s: 1 3 6 7 9 12",
+    ),
+    // two variables and two scratches
+    (
+        "var j = 2\nvar k = 3\nfor x in 1:3\n@init a = 0\n@init b = 1\nif x == 2\na = x * j\nend\nb = b + a * k\n@reduce l = list((a, b))\nend\n",
+        "",
+        "ran; l: (0, 1) (4, 13) (4, 25)",
+    ),
+    // an assignment in a branch that isn't taken
+    (
+        "for x in 1:3\n@init b = 0\nif x == 2\nb = 7\nelseif x == 3\nb = 8\nend\n@reduce s += b\nend\n",
+        "",
+        "ran; s: 0 7 8",
+    ),
+    // what was assigned before a `continue` and before a `break`
+    (
+        "for x in 1:3\n@init b = 0\nb = b + 1\nif x == 2\ncontinue\nend\n@reduce s += b\nend\n",
+        "",
+        "ran; s: 1 3",
+    ),
+    (
+        "for x in 1:9, y in 1:2\n@init b = 0\nb = b + 1\n@reduce l = list(b)\nif b == 3\nbreak\nend\nend\n",
+        "",
+        "break 2 6; l: 1 2 3",
+    ),
+    // the loop of loop_meaning's README
+    (
+        "for x in 1:3, y in 1:x\n@init b = 0\nb = b + y\n@reduce s += b\nif b == 4\nbreak\nend\nend\n",
+        "",
+        "break 2 6; s: 1 2 4",
+    ),
+    // a name of `let` doesn't live on: in the second item y has no value
+    (
+        "for x in 1:2\nif x == 1\nlet y = 5\nend\n@reduce l = list(y)\nend\n",
+        "",
+        "ran; l: 5 nothing",
+    ),
+];
+
+#[test]
+fn stores(rt: HostRuntime) -> Result<(), Fail> {
+    check(&rt, rt.alloc(), &STORES)
+}
