@@ -82,6 +82,25 @@ fn lists_of_pairs_are_written_as_tuples(rt: HostRuntime) -> Result<(), Fail> {
     Ok(())
 }
 
+#[test]
+fn lists_hold_their_inputs_in_order(rt: HostRuntime) -> Result<(), Fail> {
+    let alloc = rt.alloc();
+    let inputs = ints(alloc, &[10, 7, 4, 1])?;
+    check(&rt, alloc, &Kind::Listed, &inputs, "[10, 7, 4, 1]")?;
+    let inputs = ints(alloc, &[4, 7])?;
+    check(&rt, alloc, &Kind::Listed, &inputs, "[4, 7]")?;
+    let slow = ints(alloc, &[1, 1, 2, 2, 3, 3])?;
+    let inputs = pairs(alloc, ints(alloc, &[1, 2, 1, 2, 1, 2])?, slow)?;
+    check(
+        &rt,
+        alloc,
+        &Kind::Listed,
+        &inputs,
+        "[(1, 1), (2, 1), (1, 2), (2, 2), (1, 3), (2, 3)]",
+    )?;
+    Ok(())
+}
+
 /// The pair of a count and of the sum of a group in a group.
 fn deep_kind(alloc: Global) -> Result<Kind, NoMemory> {
     let inner = group(alloc, Kind::Sum)?;
