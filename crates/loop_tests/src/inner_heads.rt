@@ -1,8 +1,6 @@
 //! Inner heads: their order, their faults, and how many body runs they make.
 
-use crate::run::{Row, check, read, table_of};
-use loop_meaning::{PlainStop, items_of, run_plain};
-use std::alloc::Global;
+use crate::run::{Row, check};
 use std::test::Fail;
 
 static ORDERS: [Row; 4] = [
@@ -120,33 +118,4 @@ fn faults_of_bounds(rt: HostRuntime) -> Result<(), Fail> {
 #[test]
 fn widths(rt: HostRuntime) -> Result<(), Fail> {
     check(&rt, rt.alloc(), &WIDTHS)
-}
-
-/// How many inputs the first reducer of a loop without data has, which runs to its end.
-fn inputs(alloc: Global, text: &str) -> Result<usize, Fail> {
-    let program = read(alloc, text)?;
-    let items = items_of(alloc, &program, &table_of(alloc, "")?)?;
-    let end = run_plain(alloc, &program, &items)?;
-    if end.stop != PlainStop::Ran {
-        return Err(Fail::from("stopped"));
-    }
-    match end.inputs.as_slice().first() {
-        Some(named) => Ok(named.list.len()),
-        None => Err(Fail::from("no reducer")),
-    }
-}
-
-#[test]
-fn one_input_a_body_run(rt: HostRuntime) -> Result<(), Fail> {
-    let text = "for x in 1:2, y in 1:10, z in 1:10, w in 1:10\n@reduce c = count()\nend\n";
-    let count = inputs(rt.alloc(), text)?;
-    assert_eq!(rt; count, 2000);
-    Ok(())
-}
-
-#[test]
-fn two_thousand_items(rt: HostRuntime) -> Result<(), Fail> {
-    let count = inputs(rt.alloc(), "for x in 1:2000\n@reduce s += x\nend\n")?;
-    assert_eq!(rt; count, 2000);
-    Ok(())
 }

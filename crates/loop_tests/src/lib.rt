@@ -21,5 +21,3 @@ mod scratches;
 mod skips;
 #[cfg(test)]
 mod statements;
-#[cfg(test)]
-mod steps;
