@@ -78,10 +78,12 @@ module _ (outline : Outline) (before : List Entry) (scope : Scope) (kinds : Kind
       (with_entry line (first_name ns) (let_line ns x)) (scope ++ one_by_one Local ns (if t then pattern_parts ns k else []))
   fits_cases line ns x k true e =
       let after = bound_each Local ns (pattern_parts ns k) (bound_by before ++ reduced_by before) (bound_by before) (sites_in before) scope kinds knows (taken_covers before) e in
-      let entry : Entry = record { line = line; called = first_name ns; scope = scope; says = let_line ns x } in
-      (with_each Local ns (pattern_parts ns k) state, refl,
-      kept_as (with_each Local ns (pattern_parts ns k) state) (bound_by before ++ ns) (sites_in before) (scope ++ one_by_one Local ns (pattern_parts ns k)) after.0 (before ++ entry ∷ [])
-      (sym (bound_added before entry)) (sym (sites_added before entry ∙ append-nil (sites_in before))) after.1 after.2)
+      let entry : Entry = record { line = line; called = first_name ns; scope = scope; says = let_line ns x } in (
+        with_each Local ns (pattern_parts ns k) state,
+        refl,
+        kept_as (with_each Local ns (pattern_parts ns k) state) (bound_by before ++ ns) (sites_in before) (scope ++ one_by_one Local ns (pattern_parts ns k)) after.0 (before ++ entry ∷ [])
+            (sym (bound_added before entry)) (sym (sites_added before entry ∙ append-nil (sites_in before))) after.1 after.2,
+      )
   fits_cases line ns x k false e = refl
 
   let_kinds : (line : ℕ) (ns : List (List ℕ)) (x : Expr) (r : Kinded) → repeated (bound_by before ++ reduced_by before) ns ≡ [] →

@@ -123,10 +123,12 @@ module _ (outline : Outline) (before : List Entry) (scope : Scope) (kinds : Kind
       let y8 : Option Offence = or_else (if not (is_some start && not may) then None else Some (offence 8 spot n)) y10 in
       let y7 : Option Offence = or_else (if inputs_fit (allowed start may) inputs then None else Some (offence 7 spot n)) y8 in
       let P : Scope → Type 0 = λ z. Goes None last E z in
-      let done : Goes None last E S = subst P (sym (append-nil scope))
-      (with_site (site_with inputs) state, refl,
-      kept_as (with_site (site_with inputs) state) (bound_by before) (sites_in before ++ site_with inputs ∷ []) scope kinds E
-      (sym (bound_added before entry ∙ append-nil (bound_by before))) (sym (sites_added before entry)) refl knows) in
+      let done : Goes None last E S = subst P (sym (append-nil scope)) (
+        with_site (site_with inputs) state,
+        refl,
+        kept_as (with_site (site_with inputs) state) (bound_by before) (sites_in before ++ site_with inputs ∷ []) scope kinds E
+            (sym (bound_added before entry ∙ append-nil (bound_by before))) (sym (sites_added before entry)) refl knows,
+      ) in
       goes_if (not (is_other (site_with inputs) first)) (offence 6 spot n) y7 seven E S (λ _.
       goes_if (inputs_fit (allowed start may) inputs) (offence 7 spot n) y8 eight E S (λ _.
       goes_if (not (is_some start && not may)) (offence 8 spot n) y10 ten E S (λ _.

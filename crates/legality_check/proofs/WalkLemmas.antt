@@ -95,10 +95,11 @@ module _ (outline : Outline) where
   inside_check xs = inside_checked (map (statement_checked reducers) xs)
 
   leave_kept : (state : State) (earlier : List Entry) (scope more : Scope) → Kept state earlier (scope ++ more) → Kept (leaving (length scope) state) earlier scope
-  leave_kept state earlier scope more k =
-      (k.0,
-      ap (leaving (length scope)) k.1 ∙ ap (λ z. made (bound_by earlier) (sites_in earlier) z k.0) (taken_front scope more),
-      knows_front k.0 (bound_by earlier) scope more k.2)
+  leave_kept state earlier scope more k = (
+    k.0,
+    ap (leaving (length scope)) k.1 ∙ ap (λ z. made (bound_by earlier) (sites_in earlier) z k.0) (taken_front scope more),
+    knows_front k.0 (bound_by earlier) scope more k.2,
+  )
 
   leave_goes : (x : Option Offence) (r : Checked) (earlier : List Entry) (scope more : Scope) → Goes x r earlier (scope ++ more) →
       Goes x (and_then r (λ after. Ok (leaving (length scope) after))) earlier scope

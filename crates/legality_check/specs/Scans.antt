@@ -22,7 +22,7 @@ use Rattle.legality_check.specs.HeadChecks.{head_names}
 -- whether the name is one of these scratches, and open
 abbrev pub is_open : List (List ℕ) → List Bool → List ℕ → Bool
 is_open [] marks n = false
-is_open (m ∷ ms) [] n = is_open ms [] n
+is_open (m ∷ ms) [] n = false
 is_open (m ∷ ms) (b ∷ bs) n = if bytes_eq n m then b else is_open ms bs n
 
 -- after an assignment of the name

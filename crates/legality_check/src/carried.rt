@@ -24,8 +24,11 @@ fn is_open(names: &[TextValue], marks: &[bool], name: &TextValue) -> bool
     ensures { result ≡ is_open names.now marks.now name.now }
 {
     for (i, other) in names.iter().enumerate() {
+        if i >= marks.len() {
+            return false;
+        }
         if name == other {
-            return i < marks.len() && marks[i];
+            return marks[i];
         }
     }
     false
@@ -103,26 +106,22 @@ fn filled(alloc: Global, count: usize, mark: bool) -> Result<Many<bool>, NoMemor
 fn copy_open(alloc: Global, marks: &[bool]) -> Result<Many<bool>, NoMemory>
     ensures { IfOk result (λ o. o ≡ marks.now) }
 {
-    let mut copy = Many::new(alloc);
-    for is in marks {
-        copy.push(alloc, *is)?;
+    let mut copies = Many::new(alloc);
+    for mark in marks {
+        copies.push(alloc, *mark)?;
     }
-    Ok(copy)
+    Ok(copies)
 }
 
 /// Where two branches meet.
-fn where_either(
-    alloc: Global,
-    left: &[bool],
-    right: &[bool],
-) -> Result<Many<bool>, NoMemory>
+fn where_either(alloc: Global, left: &[bool], right: &[bool]) -> Result<Many<bool>, NoMemory>
     ensures { IfOk result (λ o. o ≡ where_either left.now right.now) }
 {
-    let mut either = Many::new(alloc);
-    for (i, is) in left.iter().enumerate() {
-        either.push(alloc, *is || (i < right.len() && right[i]))?;
+    let mut met = Many::new(alloc);
+    for (i, mark) in left.iter().enumerate() {
+        met.push(alloc, *mark || (i < right.len() && right[i]))?;
     }
-    Ok(either)
+    Ok(met)
 }
 
 /// What is open after a statement, told what is before it; or the first read of an open scratch.

@@ -139,7 +139,13 @@ pub(crate) fn check_head(
         line,
         first_among(reducers, inner_reads.as_slice()),
     )?;
-    if !keeps_kinds(alloc, fits, first.as_slice(), inner.as_slice(), &state.kinds)? {
+    if !keeps_kinds(
+        alloc,
+        fits,
+        first.as_slice(),
+        inner.as_slice(),
+        &state.kinds,
+    )? {
         return Err(mistyped(alloc, line, names));
     }
     if !splittable {

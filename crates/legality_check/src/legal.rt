@@ -34,10 +34,7 @@ fn earlier(
     }
 }
 
-fn earlier_offence(
-    offence: Offence,
-    right: Result<(), LegalRefusal>,
-) -> Result<(), LegalRefusal>
+fn earlier_offence(offence: Offence, right: Result<(), LegalRefusal>) -> Result<(), LegalRefusal>
     ensures { result ≡ earlier_offence offence right }
 {
     match right {

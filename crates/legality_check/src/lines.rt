@@ -7,7 +7,9 @@ ghost use Rattle.legality_check.specs.Answers.{illegal};
 ghost use Rattle.legality_check.specs.LineChecks.{binding_checked, condition_checked, condition_word, keep_checked, let_checked, print_checked, set_checked};
 
 use crate::kinds::{has_kind_of, is_bool, kept_kind, literal_kind, typed_pattern};
-use crate::names::{illegal, is_in, loop_variable, outer_variable, refuse, repeated, taken, try_names};
+use crate::names::{
+    illegal, is_in, loop_variable, outer_variable, refuse, repeated, taken, try_names,
+};
 use crate::reads::{name_and_reads, reads_of};
 use crate::state::{State, bind, bind_each};
 use legality_rules::{LegalRefusal, Sort};
@@ -140,7 +142,11 @@ pub(crate) fn check_binding(
 ) -> Result<State, LegalRefusal>
     ensures { result ≢ Err LegalRefusal.NoMemory → result ≡ binding_checked sort binding.now state }
 {
-    let twice = taken(state.bound.as_slice(), state.sites.as_slice(), &binding.name);
+    let twice = taken(
+        state.bound.as_slice(),
+        state.sites.as_slice(),
+        &binding.name,
+    );
     refuse(alloc, 2, binding.line, twice)?;
     let kind = literal_kind(&binding.value);
     Ok(bind(alloc, state, sort, &binding.name, kind.as_ref())?)

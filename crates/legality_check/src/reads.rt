@@ -122,11 +122,7 @@ fn push_range_bounds(
 }
 
 /// The bounds of all ranges of an axis, put behind others.
-fn push_axis_bounds(
-    alloc: Global,
-    axis: &Axis,
-    bounds: &mut Many<Expr>,
-) -> Result<(), NoMemory>
+fn push_axis_bounds(alloc: Global, axis: &Axis, bounds: &mut Many<Expr>) -> Result<(), NoMemory>
     ensures { OnOk result (bounds.new ≡ bounds.old ++ axis_bounds axis.now) }
 {
     match axis {

@@ -3,4 +3,4 @@ use Rattle.legality_check.proofs.carried.copy_open.Given as goal
 
 -- with the marks to come, these are all
 abbrev pub invariant-loop-mark : goal.invariant-loop-mark
-invariant-loop-mark l = l.copy ++ drop l.mark-index l.marks ≡ l.marks
+invariant-loop-mark l = l.copies ++ drop l.mark-index l.marks ≡ l.marks

@@ -4,4 +4,4 @@ use Rattle.legality_check.proofs.carried.where_either.Given as goal
 
 -- with the marks to come, these are all
 abbrev pub invariant-loop-i : goal.invariant-loop-i
-invariant-loop-i l = l.either ++ where_either (drop l.i l.left) (drop l.i l.right) ≡ where_either l.left l.right
+invariant-loop-i l = l.met ++ where_either (drop l.i l.left) (drop l.i l.right) ≡ where_either l.left l.right
