@@ -11,7 +11,7 @@ ghost use Rattle.loop_lines.specs.Claims.{Tells, LineOf, GivesReduced, OneLine};
 
 use crate::front::{assigned, is_end, split};
 use crate::parts::{names_up_to, text, whole_expr, whole_literal};
-use crate::tower::{either, tower};
+use crate::tower::{either, read_tower};
 use loop_data::{Kind, TowerExpr};
 use loop_exprs::ReadError;
 use loop_grammar::Line;
@@ -153,7 +153,7 @@ fn start_value(
 fn fed(alloc: Global, word: &Piece<'_>, tokens: &[Token<'_>]) -> Result<(Line, bool), ReadError>
     ensures { Gives (Tells (LineOf (t.At at.Reduce ∷ t.Name word.now ∷ t.Sign sg.Assign ∷ tokens.now))) (λ p. p) result }
 {
-    let (found, wide, rest) = tower(alloc, tokens)?;
+    let (found, wide, rest) = read_tower(alloc, tokens)?;
     match eat_word(Keyword::From, rest) {
         Some(behind) => start_value(alloc, word, found, wide, behind),
         None => no_start(alloc, word, found, wide, rest),

@@ -6,7 +6,7 @@ ghost use Rattle.loop_tokens.specs.declared.sign.Sign.TheVariants as sg;
 ghost use Rattle.loop_exprs.specs.Reading.{Gives};
 ghost use Rattle.loop_grammar.specs.LineForms.{SpellsTower, leaf_kind};
 ghost use Rattle.loop_heads.specs.Claims.{GaveEach};
-ghost use Rattle.loop_lines.specs.Claims.{Tells, TowerAt, TowerUpTo, OneTower};
+ghost use Rattle.loop_lines.specs.Claims.{Tells, TowerAt, TowerUpTo, OneTower, ExprUpTo};
 
 use crate::front::call;
 use crate::parts::expr_up_to;
@@ -37,48 +37,57 @@ fn leaf_kind(word: Keyword) -> Option<Kind>
 }
 
 /// Reads what stands between the parentheses of a tower of one expression.
+#[inline(never)]
 fn leaf<'t, 'a>(
     alloc: Global,
     word: Keyword,
     kind: Kind,
     tokens: &'t [Token<'a>],
-) -> Result<(TowerExpr, bool, &'t [Token<'a>]), ReadError>
+) -> Result<(Boxed<TowerExpr>, bool, &'t [Token<'a>]), ReadError>
     requires { leaf_kind word ≡ Some kind }
     ensures reads { Gives (Tells (TowerAt (t.Keyword word ∷ t.Sign sg.Open ∷ tokens.now))) (λ p. (p.0, p.1, p.2.now)) result }
     ensures shorter { IfOk result (λ p. length p.2.now < length tokens.now) }
 {
     let (expr, wide, rest) = expr_up_to(alloc, Sign::Close, tokens)?;
-    Ok((TowerExpr::Leaf { kind, expr }, wide, rest))
+    let leaf = Boxed::new(alloc, TowerExpr::Leaf { kind, expr })?;
+    Ok((leaf, wide, rest))
 }
 
 /// Reads what follows `count(`.
-fn count<'t, 'a>(tokens: &'t [Token<'a>]) -> Result<(TowerExpr, bool, &'t [Token<'a>]), ReadError>
+fn count<'t, 'a>(
+    alloc: Global,
+    tokens: &'t [Token<'a>],
+) -> Result<(Boxed<TowerExpr>, bool, &'t [Token<'a>]), ReadError>
     ensures reads { Gives (Tells (TowerAt (t.Keyword Keyword.Count ∷ t.Sign sg.Open ∷ tokens.now))) (λ p. (p.0, p.1, p.2.now)) result }
     ensures shorter { IfOk result (λ p. length p.2.now < length tokens.now) }
 {
     match eat(Sign::Close, tokens) {
-        Some(rest) => Ok((TowerExpr::Count, false, rest)),
+        Some(rest) => Ok((Boxed::new(alloc, TowerExpr::Count)?, false, rest)),
         None => Err(ReadError::NotSpelled),
     }
 }
 
-fn group_of(alloc: Global, key: Expr, inner: TowerExpr) -> Result<TowerExpr, no_memory::NoMemory>
+#[inline(never)]
+fn group_of(
+    alloc: Global,
+    key: Boxed<Expr>,
+    inner: Boxed<TowerExpr>,
+) -> Result<Boxed<TowerExpr>, no_memory::NoMemory>
     ensures { IfOk result (λ x. x ≡ TowerExpr.Grouped key inner) }
 {
-    let inner = Boxed::new(alloc, inner)?;
-    Ok(TowerExpr::Grouped { key, inner })
+    let key = key.into_inner();
+    Boxed::new(alloc, TowerExpr::Grouped { key, inner })
 }
 
+#[inline(never)]
 fn both_of(
     alloc: Global,
-    left: TowerExpr,
-    right: TowerExpr,
-) -> Result<TowerExpr, no_memory::NoMemory>
+    left: Boxed<TowerExpr>,
+    right: Boxed<TowerExpr>,
+) -> Result<Boxed<TowerExpr>, no_memory::NoMemory>
     ensures { IfOk result (λ x. x ≡ TowerExpr.Both left right) }
 {
-    let left = Boxed::new(alloc, left)?;
-    let right = Boxed::new(alloc, right)?;
-    Ok(TowerExpr::Both(left, right))
+    Boxed::new(alloc, TowerExpr::Both(left, right))
 }
 
 /// Whether some number is too wide on one side or the other.
@@ -90,10 +99,10 @@ pub(crate) fn either(wide: bool, also: bool) -> bool
 
 /// Reads the tower at the front of the tokens.
 #[cycle(towers)]
-pub(crate) fn tower<'t, 'a>(
+fn tower<'t, 'a>(
     alloc: Global,
     tokens: &'t [Token<'a>],
-) -> Result<(TowerExpr, bool, &'t [Token<'a>]), ReadError>
+) -> Result<(Boxed<TowerExpr>, bool, &'t [Token<'a>]), ReadError>
     ensures reads { Gives (Tells (TowerAt tokens.now)) (λ p. (p.0, p.1, p.2.now)) result }
     ensures shorter { IfOk result (λ p. length p.2.now < length tokens.now) }
 {
@@ -103,7 +112,7 @@ pub(crate) fn tower<'t, 'a>(
     match leaf_kind(word) {
         Some(kind) => leaf(alloc, word, kind, rest),
         None => match word {
-            Keyword::Count => count(rest),
+            Keyword::Count => count(alloc, rest),
             Keyword::Group => group(alloc, rest),
             Keyword::Both => both(alloc, rest),
             _ => Err(ReadError::NotSpelled),
@@ -117,7 +126,7 @@ fn tower_up_to<'t, 'a>(
     alloc: Global,
     sign: Sign,
     tokens: &'t [Token<'a>],
-) -> Result<(TowerExpr, bool, &'t [Token<'a>]), ReadError>
+) -> Result<(Boxed<TowerExpr>, bool, &'t [Token<'a>]), ReadError>
     ensures reads { Gives (Tells (TowerUpTo sign tokens.now)) (λ p. (p.0, p.1, p.2.now)) result }
     ensures shorter { IfOk result (λ p. length p.2.now < length tokens.now) }
 {
@@ -128,16 +137,29 @@ fn tower_up_to<'t, 'a>(
     }
 }
 
+/// Reads the key of a group, with its comma.
+#[inline(never)]
+fn key<'t, 'a>(
+    alloc: Global,
+    tokens: &'t [Token<'a>],
+) -> Result<(Boxed<Expr>, bool, &'t [Token<'a>]), ReadError>
+    ensures reads { Gives (Tells (ExprUpTo Sign.Comma tokens.now)) (λ p. (p.0, p.1, p.2.now)) result }
+    ensures shorter { IfOk result (λ p. length p.2.now < length tokens.now) }
+{
+    let (key, wide, rest) = expr_up_to(alloc, Sign::Comma, tokens)?;
+    Ok((Boxed::new(alloc, key)?, wide, rest))
+}
+
 /// Reads what follows `group(`.
 #[cycle(towers)]
 fn group<'t, 'a>(
     alloc: Global,
     tokens: &'t [Token<'a>],
-) -> Result<(TowerExpr, bool, &'t [Token<'a>]), ReadError>
+) -> Result<(Boxed<TowerExpr>, bool, &'t [Token<'a>]), ReadError>
     ensures reads { Gives (Tells (TowerAt (t.Keyword Keyword.Group ∷ t.Sign sg.Open ∷ tokens.now))) (λ p. (p.0, p.1, p.2.now)) result }
     ensures shorter { IfOk result (λ p. length p.2.now < length tokens.now) }
 {
-    let (key, wide, rest) = expr_up_to(alloc, Sign::Comma, tokens)?;
+    let (key, wide, rest) = key(alloc, tokens)?;
     let (inner, also, rest) = tower_up_to(alloc, Sign::Close, rest)?;
     let any_wide = either(wide, also);
     let whole = group_of(alloc, key, inner)?;
@@ -149,7 +171,7 @@ fn group<'t, 'a>(
 fn both<'t, 'a>(
     alloc: Global,
     tokens: &'t [Token<'a>],
-) -> Result<(TowerExpr, bool, &'t [Token<'a>]), ReadError>
+) -> Result<(Boxed<TowerExpr>, bool, &'t [Token<'a>]), ReadError>
     ensures reads { Gives (Tells (TowerAt (t.Keyword Keyword.Both ∷ t.Sign sg.Open ∷ tokens.now))) (λ p. (p.0, p.1, p.2.now)) result }
     ensures shorter { IfOk result (λ p. length p.2.now < length tokens.now) }
 {
@@ -171,7 +193,8 @@ pub fn read_tower<'t, 'a>(
     ensures only { GaveEach (TowerAt tokens.now) (λ p. (p.0, p.1, p.2.now)) result }
     ensures shorter { IfOk result (λ p. length p.2.now < length tokens.now) }
 {
-    tower(alloc, tokens)
+    let (tower, wide, rest) = tower(alloc, tokens)?;
+    Ok((tower.into_inner(), wide, rest))
 }
 
 /// Tokens spell one tower at most at their front.
