@@ -1,6 +1,5 @@
 -- A tower is determined by the tokens that it begins with, and where none is spelled.
-use Rattle.std.proofs.Common.{◌≡◌, ◌≢◌, Bool, ◌||◌, false, List, ◌∷◌, Some, None, Result, Ok, Err, IfOk, refl, ap, sym, ◌∙◌, subst}
-use Rattle.std.specs.Borrow.{Bor}
+use Rattle.std.proofs.Common.{◌≡◌, ◌≢◌, Bool, ◌||◌, false, List, ◌∷◌, Some, None, refl, ap, sym, ◌∙◌, subst}
 use Rattle.loop_tokens.specs.declared.token.Token.{Token}
 use Rattle.loop_tokens.specs.declared.token.Token.TheVariants as tok
 use Rattle.loop_tokens.specs.declared.keyword.Keyword.{Keyword}
@@ -12,17 +11,12 @@ use Rattle.loop_data.specs.declared.tower.Kind.{Kind}
 use Rattle.loop_data.specs.declared.tower.TowerExpr.{TowerExpr}
 use Rattle.loop_data.specs.declared.tower.TowerExpr.TheVariants as tower
 use Rattle.loop_exprs.specs.declared.level.Level.TheVariants as level
-use Rattle.loop_exprs.specs.declared.read.ReadError.{ReadError}
-use Rattle.loop_exprs.specs.declared.read.ReadError.TheVariants.{NoMemory, NotSpelled}
 use Rattle.loop_exprs.specs.Operations.{sign_operation}
 use Rattle.loop_exprs.specs.Grammar.{Spells, NotFirst}
-use Rattle.loop_exprs.specs.Reading.{Gives}
 use Rattle.loop_exprs.proofs.Unique.{one_reading}
 use Rattle.loop_grammar.specs.LineForms.{SpellsTower, leaf_kind}
-use Rattle.loop_heads.specs.Claims.{Gave, GaveEach}
-use Rattle.loop_heads.proofs.Steps.{triple_is}
 use Rattle.loop_lines.specs.Claims.{NoCall, Tells, ExprUpTo, TowerAt, TowerUpTo, OneTower}
-use Rattle.loop_lines.proofs.Steps.{seen, none_some, some_same, tails}
+use Rattle.loop_lines.proofs.Steps.{none_some, some_same, tails}
 
 -- one thing with its flag and its rest, and another
 abbrev pub Same : {A : Type 0} → A → Bool → List Token → A → Bool → List Token → Type 0
@@ -172,17 +166,3 @@ no_word k ts h a b c p d = no_word_at h a b c d
 
 pub unended : (s : Sign) (x : TowerExpr) (u : Bool) (ts rest : List Token) → SpellsTower x u ts rest → NotFirst (tok.Sign s) rest → Tells (TowerUpTo s ts) None
 unended s x u ts rest d free p e = free p.2 (exactly d p.0 p.1 (tok.Sign s ∷ p.2) e).2
-
--- ---- what the public reader claims
-
-pub spelled : (r : Result (TowerExpr × Bool × Bor (List Token)) ReadError) (ts : List Token) → Gives (Tells (TowerAt ts)) seen r → IfOk r (λ y. SpellsTower y.0 y.1 ts y.2.now)
-spelled (Ok y) ts d = d
-spelled (Err error) ts d = tt
-
-gave_at : (r : Result (TowerExpr × Bool × Bor (List Token)) ReadError) (ts : List Token) → Gives (Tells (TowerAt ts)) seen r → (x : TowerExpr × Bool × List Token) → TowerAt ts x → Gave seen r x
-gave_at (Ok y) ts d x e = let same = exactly d x.0 x.1 x.2 e in triple_is y.0 y.1 y.2.now x same.0 same.1 same.2
-gave_at (Err NoMemory) ts d x e = tt
-gave_at (Err NotSpelled) ts d x e = d x e
-
-pub gave_each : (r : Result (TowerExpr × Bool × Bor (List Token)) ReadError) (ts : List Token) → Gives (Tells (TowerAt ts)) seen r → GaveEach (TowerAt ts) seen r
-gave_each r ts d x e = gave_at r ts d x e

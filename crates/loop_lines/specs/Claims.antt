@@ -31,7 +31,8 @@ abbrev pub Tells : {X : Type 0} → (X → Type 0) → Option X → Type 0
 Tells {X = X} P None = (x : X) → P x → ⊥
 Tells P (Some x) = P x
 
--- an expression that is spelled in front of the sign, whether some number is too wide, and the tokens behind the sign
+-- an expression that is spelled in front of the sign, whether some number is too wide, and the
+-- tokens behind the sign
 abbrev pub ExprUpTo : Sign → List Token → Expr × Bool × List Token → Type 0
 ExprUpTo s ts p = Spells level.Expr p.0 p.1 ts (tok.Sign s ∷ p.2)
 
@@ -39,7 +40,8 @@ ExprUpTo s ts p = Spells level.Expr p.0 p.1 ts (tok.Sign s ∷ p.2)
 abbrev pub TowerAt : List Token → TowerExpr × Bool × List Token → Type 0
 TowerAt ts p = SpellsTower p.0 p.1 ts p.2
 
--- what was read is a tower that is spelled at the front of the tokens, with its rest; where nothing was read, none is spelled there
+-- what was read is a tower that is spelled at the front of the tokens, with its rest; where nothing
+-- was read, none is spelled there
 abbrev pub GivesTower : List Token → Result (TowerExpr × Bool × Bor (List Token)) ReadError → Type 0
 GivesTower ts r = Gives (Tells (TowerAt ts)) (λ p. (p.0, p.1, p.2.now)) r
 
@@ -49,7 +51,9 @@ TowerUpTo s ts p = SpellsTower p.0 p.1 ts (tok.Sign s ∷ p.2)
 
 -- tokens spell one tower at most at their front
 abbrev pub OneTower : Type 0
-OneTower = (ts rest also : List Token) (x y : TowerExpr) (wide too : Bool) → SpellsTower x wide ts rest → SpellsTower y too ts also → (x ≡ y) × (wide ≡ too) × (rest ≡ also)
+OneTower = (ts rest also : List Token) (x y : TowerExpr) (wide too : Bool) →
+    SpellsTower x wide ts rest → SpellsTower y too ts also →
+    (x ≡ y) × (wide ≡ too) × (rest ≡ also)
 
 -- a name with a `=` behind it comes first, and these tokens stand behind that
 abbrev pub IsAssigned : List Token → List ℕ → List Token → Type 0
@@ -88,9 +92,12 @@ abbrev pub reducing : List ℕ → Sign → List Token → List Token
 reducing n s ts = tok.At at.Reduce ∷ tok.Name n ∷ tok.Sign s ∷ ts
 
 -- an `@reduce` line for this name, whatever the tokens that spell its tower up to `rest`
-abbrev pub GivesReduced : List ℕ → TowerExpr → Bool → List Token → Result (Line × Bool) ReadError → Type 0
-GivesReduced n x u rest r = (ts : List Token) → SpellsTower x u ts rest → GivesLine (reducing n sg.Assign ts) r
+abbrev pub GivesReduced :
+    List ℕ → TowerExpr → Bool → List Token → Result (Line × Bool) ReadError → Type 0
+GivesReduced n x u rest r =
+    (ts : List Token) → SpellsTower x u ts rest → GivesLine (reducing n sg.Assign ts) r
 
 -- all the tokens of a line together spell one line at most
 abbrev pub OneLine : Type 0
-OneLine = (ts : List Token) (x y : Line) (u v : Bool) → SpellsLine x u ts → SpellsLine y v ts → (x ≡ y) × (u ≡ v)
+OneLine = (ts : List Token) (x y : Line) (u v : Bool) →
+    SpellsLine x u ts → SpellsLine y v ts → (x ≡ y) × (u ≡ v)

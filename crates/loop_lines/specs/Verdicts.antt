@@ -38,8 +38,10 @@ refusal_of NotSpelled n = refusal.NotALine n
 
 -- why the line that the tokens spell is refused, or that it isn't, whatever these tokens
 abbrev pub IsOwnRefusal : ℕ → Line → Bool → Option SyntaxRefusal → Type 0
-IsOwnRefusal n x wide None = (ts : List Token) → is_too_deep ts ≡ false → SpellsLine x wide ts → TokensSay ts true (says x)
-IsOwnRefusal n x wide (Some r) = (ts : List Token) → is_too_deep ts ≡ false → SpellsLine x wide ts → IsRefusal ts true n r
+IsOwnRefusal n x wide None =
+    (ts : List Token) → is_too_deep ts ≡ false → SpellsLine x wide ts → TokensSay ts true (says x)
+IsOwnRefusal n x wide (Some r) =
+    (ts : List Token) → is_too_deep ts ≡ false → SpellsLine x wide ts → IsRefusal ts true n r
 
 -- the value, unless there is a refusal
 abbrev pub unless : {A : Type 0} → Option SyntaxRefusal → A → Result A SyntaxRefusal
@@ -48,7 +50,8 @@ unless (Some r) x = Err r
 
 -- the tokens of a line say one thing at most
 abbrev pub OneVerdict : Type 0
-OneVerdict = (ts : List Token) (whole : Bool) (a b : Verdict) → TokensSay ts whole a → TokensSay ts whole b → a ≡ b
+OneVerdict = (ts : List Token) (whole : Bool) (a b : Verdict) →
+    TokensSay ts whole a → TokensSay ts whole b → a ≡ b
 
 -- the bytes of a line say one thing at most
 abbrev pub OneSaying : Type 0

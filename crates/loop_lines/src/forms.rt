@@ -10,7 +10,7 @@ ghost use Rattle.loop_lines.specs.Claims.{GivesLine, GivesReduced, reducing, One
 
 use crate::front::{assigned, is_end, is_skip, split};
 use crate::parts::{names_up_to, text, whole_expr, whole_literal};
-use crate::tower::{either, tower};
+use crate::tower::read_tower;
 use loop_data::{Kind, TowerExpr};
 use loop_exprs::ReadError;
 use loop_grammar::Line;
@@ -165,17 +165,16 @@ fn start_value(
     ensures { GivesReduced word.now tower wide (t.Keyword Keyword.From ∷ rest.now) result }
 {
     let (value, also) = whole_literal(alloc, rest)?;
-    let any_wide = either(wide, also);
     let name = text(alloc, word)?;
     let start = Some(value);
-    Ok((Line::Reduce { name, tower, start }, any_wide))
+    Ok((Line::Reduce { name, tower, start }, wide | also))
 }
 
 /// Reads what follows the `=` of an `@reduce` line.
 fn fed(alloc: Global, word: &Piece<'_>, tokens: &[Token<'_>]) -> Result<(Line, bool), ReadError>
     ensures { GivesLine (reducing word.now sg.Assign tokens.now) result }
 {
-    let (found, wide, rest) = tower(alloc, tokens)?;
+    let (found, wide, rest) = read_tower(alloc, tokens)?;
     match eat_word(Keyword::From, rest) {
         Some(behind) => start_value(alloc, word, found, wide, behind),
         None => no_start(alloc, word, found, wide, rest),

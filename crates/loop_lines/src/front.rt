@@ -31,7 +31,8 @@ pub(crate) fn call<'t, 'a>(tokens: &'t [Token<'a>]) -> Option<(Keyword, &'t [Tok
 
 /// The name that comes first with a `=` behind it, and the tokens behind that.
 pub(crate) fn assigned<'t, 'a>(tokens: &'t [Token<'a>]) -> Option<(&'t Piece<'a>, &'t [Token<'a>])>
-    ensures { MatchOption result (NotAssigned tokens.now) (λ p. IsAssigned tokens.now p.0.now p.1.now) }
+    ensures { MatchOption result
+        (NotAssigned tokens.now) (λ p. IsAssigned tokens.now p.0.now p.1.now) }
 {
     let (name, rest) = eat_name(tokens)?;
     let rest = eat(Sign::Assign, rest)?;
@@ -63,7 +64,8 @@ fn eat_this<'t, 'a>(name: &str, tokens: &'t [Token<'a>]) -> Option<&'t [Token<'a
 
 /// The tokens behind the names `fault` and `skip`, if they come first.
 fn fault_skip<'t, 'a>(tokens: &'t [Token<'a>]) -> Option<&'t [Token<'a>]>
-    ensures { MatchOption result (NoFaultSkip tokens.now) (λ rest. IsFaultSkip tokens.now rest.now) }
+    ensures { MatchOption result
+        (NoFaultSkip tokens.now) (λ rest. IsFaultSkip tokens.now rest.now) }
 {
     let rest = eat_this("fault", tokens)?;
     let rest = eat_this("skip", rest)?;

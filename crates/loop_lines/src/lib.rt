@@ -11,5 +11,5 @@ mod tower;
 mod verdict;
 
 pub use forms::one_line;
-pub use tower::{one_tower, read_tower};
+pub use tower::one_tower;
 pub use verdict::{one_saying, one_verdict, read_line};

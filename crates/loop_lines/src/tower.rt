@@ -1,12 +1,11 @@
 //! Reads a tower.
 
-ghost use Rattle.std.specs.Prelude.{◌≡◌, ◌<◌, ◌∷◌, ◌||◌, Some, None, IfOk, length};
+ghost use Rattle.std.specs.Prelude.{◌≡◌, ◌<◌, ◌∷◌, Some, IfOk, length};
 ghost use Rattle.loop_tokens.specs.declared.token.Token.TheVariants as t;
 ghost use Rattle.loop_tokens.specs.declared.sign.Sign.TheVariants as sg;
 ghost use Rattle.loop_exprs.specs.Reading.{Gives};
-ghost use Rattle.loop_grammar.specs.LineForms.{SpellsTower, leaf_kind};
-ghost use Rattle.loop_heads.specs.Claims.{GaveEach};
-ghost use Rattle.loop_lines.specs.Claims.{Tells, TowerAt, TowerUpTo, GivesTower, OneTower};
+ghost use Rattle.loop_grammar.specs.LineForms.{leaf_kind};
+ghost use Rattle.loop_lines.specs.Claims.{Tells, ExprUpTo, TowerUpTo, GivesTower, OneTower};
 
 use crate::front::call;
 use crate::parts::expr_up_to;
@@ -14,6 +13,7 @@ use loop_data::{Boxed, Expr, Kind, TowerExpr};
 use loop_exprs::ReadError;
 use loop_heads::eat;
 use loop_tokens::{Keyword, Sign, Token};
+use no_memory::NoMemory;
 use std::alloc::Global;
 
 /// The kind of tower of one expression that a word is.
@@ -37,63 +37,70 @@ fn leaf_kind(word: Keyword) -> Option<Kind>
 }
 
 /// Reads what stands between the parentheses of a tower of one expression.
+#[inline(never)]
 fn leaf<'t, 'a>(
     alloc: Global,
     word: Keyword,
     kind: Kind,
     tokens: &'t [Token<'a>],
-) -> Result<(TowerExpr, bool, &'t [Token<'a>]), ReadError>
+) -> Result<(Boxed<TowerExpr>, bool, &'t [Token<'a>]), ReadError>
     requires { leaf_kind word ≡ Some kind }
     ensures reads { GivesTower (t.Keyword word ∷ t.Sign sg.Open ∷ tokens.now) result }
     ensures shorter { IfOk result (λ p. length p.2.now < length tokens.now) }
 {
     let (expr, wide, rest) = expr_up_to(alloc, Sign::Close, tokens)?;
-    Ok((TowerExpr::Leaf { kind, expr }, wide, rest))
+    let leaf = Boxed::new(alloc, TowerExpr::Leaf { kind, expr })?;
+    Ok((leaf, wide, rest))
 }
 
 /// Reads what follows `count(`.
-fn count<'t, 'a>(tokens: &'t [Token<'a>]) -> Result<(TowerExpr, bool, &'t [Token<'a>]), ReadError>
+fn count<'t, 'a>(
+    alloc: Global,
+    tokens: &'t [Token<'a>],
+) -> Result<(Boxed<TowerExpr>, bool, &'t [Token<'a>]), ReadError>
     ensures reads { GivesTower (t.Keyword Keyword.Count ∷ t.Sign sg.Open ∷ tokens.now) result }
     ensures shorter { IfOk result (λ p. length p.2.now < length tokens.now) }
 {
     match eat(Sign::Close, tokens) {
-        Some(rest) => Ok((TowerExpr::Count, false, rest)),
+        Some(rest) => {
+            let count = Boxed::new(alloc, TowerExpr::Count)?;
+            Ok((count, false, rest))
+        }
         None => Err(ReadError::NotSpelled),
     }
 }
 
-fn group_of(alloc: Global, key: Expr, inner: TowerExpr) -> Result<TowerExpr, no_memory::NoMemory>
+/// A group on the heap. What makes towers stands apart from what reads them, so that no tree is among the locals of the
+/// functions that call themselves.
+#[inline(never)]
+fn group_of(
+    alloc: Global,
+    key: Boxed<Expr>,
+    inner: Boxed<TowerExpr>,
+) -> Result<Boxed<TowerExpr>, NoMemory>
     ensures { IfOk result (λ x. x ≡ TowerExpr.Grouped key inner) }
 {
-    let inner = Boxed::new(alloc, inner)?;
-    Ok(TowerExpr::Grouped { key, inner })
+    let key = key.into_inner();
+    Boxed::new(alloc, TowerExpr::Grouped { key, inner })
 }
 
+#[inline(never)]
 fn both_of(
     alloc: Global,
-    left: TowerExpr,
-    right: TowerExpr,
-) -> Result<TowerExpr, no_memory::NoMemory>
+    left: Boxed<TowerExpr>,
+    right: Boxed<TowerExpr>,
+) -> Result<Boxed<TowerExpr>, NoMemory>
     ensures { IfOk result (λ x. x ≡ TowerExpr.Both left right) }
 {
-    let left = Boxed::new(alloc, left)?;
-    let right = Boxed::new(alloc, right)?;
-    Ok(TowerExpr::Both(left, right))
-}
-
-/// Whether some number is too wide on one side or the other.
-pub(crate) fn either(wide: bool, also: bool) -> bool
-    ensures { result ≡ (wide || also) }
-{
-    wide || also
+    Boxed::new(alloc, TowerExpr::Both(left, right))
 }
 
 /// Reads the tower at the front of the tokens.
 #[cycle(towers)]
-pub(crate) fn tower<'t, 'a>(
+fn tower<'t, 'a>(
     alloc: Global,
     tokens: &'t [Token<'a>],
-) -> Result<(TowerExpr, bool, &'t [Token<'a>]), ReadError>
+) -> Result<(Boxed<TowerExpr>, bool, &'t [Token<'a>]), ReadError>
     ensures reads { GivesTower tokens.now result }
     ensures shorter { IfOk result (λ p. length p.2.now < length tokens.now) }
 {
@@ -103,7 +110,7 @@ pub(crate) fn tower<'t, 'a>(
     match leaf_kind(word) {
         Some(kind) => leaf(alloc, word, kind, rest),
         None => match word {
-            Keyword::Count => count(rest),
+            Keyword::Count => count(alloc, rest),
             Keyword::Group => group(alloc, rest),
             Keyword::Both => both(alloc, rest),
             _ => Err(ReadError::NotSpelled),
@@ -117,7 +124,7 @@ fn tower_up_to<'t, 'a>(
     alloc: Global,
     sign: Sign,
     tokens: &'t [Token<'a>],
-) -> Result<(TowerExpr, bool, &'t [Token<'a>]), ReadError>
+) -> Result<(Boxed<TowerExpr>, bool, &'t [Token<'a>]), ReadError>
     ensures reads { Gives (Tells (TowerUpTo sign tokens.now)) (λ p. (p.0, p.1, p.2.now)) result }
     ensures shorter { IfOk result (λ p. length p.2.now < length tokens.now) }
 {
@@ -128,20 +135,33 @@ fn tower_up_to<'t, 'a>(
     }
 }
 
+/// Reads the key of a group, with its comma.
+#[inline(never)]
+fn key<'t, 'a>(
+    alloc: Global,
+    tokens: &'t [Token<'a>],
+) -> Result<(Boxed<Expr>, bool, &'t [Token<'a>]), ReadError>
+    ensures reads { Gives (Tells (ExprUpTo sg.Comma tokens.now)) (λ p. (p.0, p.1, p.2.now)) result }
+    ensures shorter { IfOk result (λ p. length p.2.now < length tokens.now) }
+{
+    let (expr, wide, rest) = expr_up_to(alloc, Sign::Comma, tokens)?;
+    let key = Boxed::new(alloc, expr)?;
+    Ok((key, wide, rest))
+}
+
 /// Reads what follows `group(`.
 #[cycle(towers)]
 fn group<'t, 'a>(
     alloc: Global,
     tokens: &'t [Token<'a>],
-) -> Result<(TowerExpr, bool, &'t [Token<'a>]), ReadError>
+) -> Result<(Boxed<TowerExpr>, bool, &'t [Token<'a>]), ReadError>
     ensures reads { GivesTower (t.Keyword Keyword.Group ∷ t.Sign sg.Open ∷ tokens.now) result }
     ensures shorter { IfOk result (λ p. length p.2.now < length tokens.now) }
 {
-    let (key, wide, rest) = expr_up_to(alloc, Sign::Comma, tokens)?;
+    let (key, wide, rest) = key(alloc, tokens)?;
     let (inner, also, rest) = tower_up_to(alloc, Sign::Close, rest)?;
-    let any_wide = either(wide, also);
     let whole = group_of(alloc, key, inner)?;
-    Ok((whole, any_wide, rest))
+    Ok((whole, wide | also, rest))
 }
 
 /// Reads what follows `both(`.
@@ -149,29 +169,27 @@ fn group<'t, 'a>(
 fn both<'t, 'a>(
     alloc: Global,
     tokens: &'t [Token<'a>],
-) -> Result<(TowerExpr, bool, &'t [Token<'a>]), ReadError>
+) -> Result<(Boxed<TowerExpr>, bool, &'t [Token<'a>]), ReadError>
     ensures reads { GivesTower (t.Keyword Keyword.Both ∷ t.Sign sg.Open ∷ tokens.now) result }
     ensures shorter { IfOk result (λ p. length p.2.now < length tokens.now) }
 {
     let (left, wide, rest) = tower_up_to(alloc, Sign::Comma, tokens)?;
     let (right, also, rest) = tower_up_to(alloc, Sign::Close, rest)?;
-    let any_wide = either(wide, also);
     let whole = both_of(alloc, left, right)?;
-    Ok((whole, any_wide, rest))
+    Ok((whole, wide | also, rest))
 }
 
 /// Reads the tower at the front of the tokens: the tower, whether some number in it is too wide (it then has 0 in its place),
 /// and the tokens that follow. `NotSpelled` exactly where no tower is spelled there; otherwise the only error is want of
 /// memory. The recursion is bounded by the line's limits.
-pub fn read_tower<'t, 'a>(
+pub(crate) fn read_tower<'t, 'a>(
     alloc: Global,
     tokens: &'t [Token<'a>],
 ) -> Result<(TowerExpr, bool, &'t [Token<'a>]), ReadError>
-    ensures spelled { IfOk result (λ p. SpellsTower p.0 p.1 tokens.now p.2.now) }
-    ensures only { GaveEach (TowerAt tokens.now) (λ p. (p.0, p.1, p.2.now)) result }
-    ensures shorter { IfOk result (λ p. length p.2.now < length tokens.now) }
+    ensures { GivesTower tokens.now result }
 {
-    tower(alloc, tokens)
+    let (found, wide, rest) = tower(alloc, tokens)?;
+    Ok((found.into_inner(), wide, rest))
 }
 
 /// Tokens spell one tower at most at their front.

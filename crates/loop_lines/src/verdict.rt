@@ -133,7 +133,8 @@ pub fn read_line(
     line: &LineTokens<'_>,
 ) -> Result<Option<Line>, SyntaxRefusal>
     ensures says { IfOk result (λ x. TokensSay line.now.tokens.items line.now.whole (said x)) }
-    ensures refuses { IfErr result (λ e. e ≢ SyntaxRefusal.NoMemory → IsLineRefusal line.now number e) }
+    ensures refuses { IfErr result (λ e.
+        e ≢ SyntaxRefusal.NoMemory → IsLineRefusal line.now number e) }
 {
     verdict(alloc, number, line.tokens.as_slice(), line.whole)
 }

@@ -5,6 +5,7 @@ use Rattle.loop_data.specs.declared.value.Value.{Value}
 use Rattle.loop_data.specs.declared.expr.Expr.{Expr}
 use Rattle.loop_data.specs.declared.statement.Statement.{Statement}
 use Rattle.loop_data.specs.declared.statement.Statement.TheVariants as s
+use Rattle.loop_data.specs.declared.statement.Branch.{Branch}
 use Rattle.loop_data.specs.declared.head.Binding.{Binding}
 use Rattle.loop_grammar.specs.declared.line.Line.{Line}
 use Rattle.loop_grammar.specs.declared.line.Line.TheVariants as l
@@ -43,10 +44,16 @@ add_var q b = record q { vars = q.vars ++ b ∷ [] }
 
 -- the loop of the `for` line, before its body
 abbrev pub entered : Preface → ℕ → Heads → OpenLoop
-entered q n h = record { front = record { preface = q; line = n; heads = h; scratch = [] }; ifs = []; block = [] }
+entered q n h =
+    record {
+      front = record { preface = q; line = n; heads = h; scratch = [] };
+      ifs = [];
+      block = [];
+    }
 
 abbrev pub in_vars : Preface → ℕ → Line → Answer
-in_vars q n (l.Var name v) = Ok (stage.Vars (add_var q (record { line = n; name = name; value = v })))
+in_vars q n (l.Var name v) =
+    Ok (stage.Vars (add_var q (record { line = n; name = name; value = v })))
 in_vars q n (l.For h) = Ok (stage.Loop (entered q n h))
 in_vars q n _ = Err (BadNesting n)
 
@@ -63,7 +70,9 @@ with_scratch o scratch = record o { front = record o.front { scratch = scratch }
 
 -- an `@init` line, with the open `if`s and the block so far
 abbrev pub init_at : OpenLoop → ℕ → List ℕ → Value → List OpenIf → List Statement → Answer
-init_at o n name v [] [] = Ok (stage.Loop (with_scratch o (o.front.scratch ++ record { line = n; name = name; value = v } ∷ [])))
+init_at o n name v [] [] =
+    Ok (stage.Loop (with_scratch o
+    (o.front.scratch ++ record { line = n; name = name; value = v } ∷ [])))
 init_at o n name v _ _ = Err (BadNesting n)
 
 abbrev pub init : OpenLoop → ℕ → List ℕ → Value → Answer
@@ -77,14 +86,26 @@ put o x = Ok (stage.Loop (record o { block = o.block ++ x ∷ [] }))
 abbrev pub deeper : ℕ → OpenLoop → ℕ → Expr → Answer
 deeper most o n x =
     if nat_lt (length o.ifs) most then
-    Ok (stage.Loop (record o { ifs = record { before = o.block; line = n; branches = []; opened = opened.Test n x } ∷ o.ifs; block = [] }))
+    Ok (stage.Loop (record o {
+      ifs = record { before = o.block; line = n; branches = []; opened = opened.Test n x } ∷ o.ifs;
+      block = [];
+    }))
     else Err (TooDeep n)
+
+-- the condition that opened a block, with its line, where another branch begins on line n
+abbrev pub condition : Opened → ℕ → Result (ℕ × Expr) SyntaxRefusal
+condition (opened.Test k x) n = Ok (k, x)
+condition (opened.Else k) n = Err (BadNesting n)
+
+-- one more branch, whose block is complete
+abbrev pub with_branch : List Branch → ℕ → Expr → List Statement → List Branch
+with_branch bs k x block = bs ++ record { line = k; test = x; block = block } ∷ []
 
 -- the open `if` where its block is complete and another begins
 abbrev pub next_branch : OpenIf → List Statement → Opened → ℕ → Result OpenIf SyntaxRefusal
-next_branch f block to n = elim f.opened as (λ _. Result OpenIf SyntaxRefusal) [
-  | opened.Test k x ↦ Ok (record f { branches = f.branches ++ record { line = k; test = x; block = block } ∷ []; opened = to })
-  | opened.Else k ↦ Err (BadNesting n)
+next_branch f block to n = elim (condition f.opened n) as (λ _. Result OpenIf SyntaxRefusal) [
+  | Ok p ↦ Ok (record f { branches = with_branch f.branches p.0 p.1 block; opened = to })
+  | Err r ↦ Err r
 ]
 
 abbrev pub onward : OpenLoop → List OpenIf → Result OpenIf SyntaxRefusal → Answer
@@ -96,12 +117,13 @@ abbrev pub branched : OpenLoop → ℕ → Opened → List OpenIf → Answer
 branched o n to [] = Err (BadNesting n)
 branched o n to (f ∷ fs) = onward o fs (next_branch f o.block to n)
 
--- the statement that an open `if` is where its last block is complete and its `end` stands on line m
+-- the statement that an `if` on line n is whose last block is complete, with its `end` on line m
+abbrev pub if_of : ℕ → List Branch → Opened → List Statement → ℕ → Statement
+if_of n bs (opened.Test k x) block m = s.If n (with_branch bs k x block) 0 [] m
+if_of n bs (opened.Else k) block m = s.If n bs k block m
+
 abbrev pub whole_if : OpenIf → List Statement → ℕ → Statement
-whole_if f block m = elim f.opened as (λ _. Statement) [
-  | opened.Test k x ↦ s.If f.line (f.branches ++ record { line = k; test = x; block = block } ∷ []) 0 [] m
-  | opened.Else k ↦ s.If f.line f.branches k block m
-]
+whole_if f block m = if_of f.line f.branches f.opened block m
 
 -- the block around it, up to there
 abbrev pub closed : OpenIf → List Statement → ℕ → List Statement
@@ -110,7 +132,14 @@ closed f block m = f.before ++ whole_if f block m ∷ []
 -- the program of the loop with this body that ends on line m
 abbrev pub whole_loop : LoopFront → List Statement → ℕ → ProgramTree
 whole_loop f body m =
-    record { skip_line = f.preface.skip_line; vars = f.preface.vars; head = head_line f.line f.heads m; scratch = f.scratch; body = body; prints = [] }
+    record {
+      skip_line = f.preface.skip_line;
+      vars = f.preface.vars;
+      head = head_line f.line f.heads m;
+      scratch = f.scratch;
+      body = body;
+      prints = [];
+    }
 
 -- an `end` line, with the open `if`s
 abbrev pub ended : OpenLoop → ℕ → List OpenIf → Answer
@@ -136,7 +165,8 @@ in_loop most o n (l.Print name) = Err (BadNesting n)
 
 -- one line more behind the loop
 abbrev pub in_prints : ProgramTree → ℕ → Line → Answer
-in_prints p n (l.Print name) = Ok (stage.Prints (record p { prints = p.prints ++ record { line = n; name = name } ∷ [] }))
+in_prints p n (l.Print name) =
+    Ok (stage.Prints (record p { prints = p.prints ++ record { line = n; name = name } ∷ [] }))
 in_prints p n _ = Err (BadNesting n)
 
 -- one line more
@@ -150,7 +180,8 @@ step most (stage.Prints p) x = in_prints p x.line x.form
 
 abbrev pub run : ℕ → Stage → List NumberedLine → Answer
 run most at [] = Ok at
-run most at (x ∷ lines) = elim (step most at x) as (λ _. Answer) [ Ok b ↦ run most b lines | Err r ↦ Err r ]
+run most at (x ∷ lines) =
+    elim (step most at x) as (λ _. Answer) [ Ok b ↦ run most b lines | Err r ↦ Err r ]
 
 -- the same from what the first of them made
 abbrev pub run_on : ℕ → List NumberedLine → Answer → Answer

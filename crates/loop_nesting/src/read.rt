@@ -3,7 +3,7 @@
 ghost use Rattle.std.specs.Prelude.{◌≡◌, ◌≢◌, [], Ok, Err, IfOk};
 ghost use Rattle.loop_grammar.specs.declared.refusal.SyntaxRefusal.TheVariants as refusal;
 ghost use Rattle.loop_grammar.specs.Nesting.{Nests, most_blocks};
-ghost use Rattle.loop_nesting.specs.Reading.{step, at_start, in_vars, in_loop, in_prints, init, deeper, branched, ended, put, entered, whole_loop, closed, next_branch, run, finish, most_ifs};
+ghost use Rattle.loop_nesting.specs.Reading.{step, at_start, in_vars, in_loop, in_prints, init, deeper, branched, ended, put, entered, whole_loop, closed, next_branch, condition, with_branch, if_of, run, finish, most_ifs};
 ghost use Rattle.loop_nesting.specs.declared.open.Stage.TheVariants as stage;
 ghost use Rattle.loop_nesting.specs.Claims.{RefusesNesting};
 
@@ -17,6 +17,72 @@ use std::collections::VecDeque;
 
 /// The most `if`s that may be open within one another: the loop's block is the first of 16.
 const MOST_IFS: usize = 15;
+
+impl Opened {
+    /// The condition that opened a block, with its line, where another branch begins on the line given; after `else` that is
+    /// bad.
+    fn condition(self, line: u32) -> Result<(u32, Expr), SyntaxRefusal>
+        ensures { result ≡ condition self line }
+    {
+        match self {
+            Opened::Test {
+                line: test_line,
+                test,
+            } => Ok((test_line, test)),
+            Opened::Else { .. } => Err(SyntaxRefusal::BadNesting { line }),
+        }
+    }
+}
+
+/// The branches with one more, whose block is complete.
+fn with_branch(
+    alloc: Global,
+    mut branches: Many<Branch>,
+    line: u32,
+    test: Expr,
+    block: Many<Statement>,
+) -> Result<Many<Branch>, NoMemory>
+    ensures { IfOk result (λ bs. bs ≡ with_branch branches line test block) }
+{
+    branches.push(alloc, Branch { line, test, block })?;
+    Ok(branches)
+}
+
+/// The statement that an `if` is whose last block is complete, and whose `end` stands on the line.
+fn whole_if(
+    alloc: Global,
+    line: u32,
+    branches: Many<Branch>,
+    opened: Opened,
+    block: Many<Statement>,
+    end_line: u32,
+) -> Result<Statement, NoMemory>
+    ensures { IfOk result (λ x. x ≡ if_of line branches opened block end_line) }
+{
+    match opened {
+        Opened::Test {
+            line: test_line,
+            test,
+        } => {
+            let branches = with_branch(alloc, branches, test_line, test, block)?;
+            let other = Many::new(alloc);
+            Ok(Statement::If {
+                line,
+                branches,
+                else_line: 0,
+                other,
+                end_line,
+            })
+        }
+        Opened::Else { line: else_line } => Ok(Statement::If {
+            line,
+            branches,
+            else_line,
+            other: block,
+            end_line,
+        }),
+    }
+}
 
 impl OpenIf {
     /// The same with the block complete and another begun by an `elseif` or `else` on the line; after `else` that is bad.
@@ -32,31 +98,17 @@ impl OpenIf {
         let OpenIf {
             before,
             line: if_line,
-            mut branches,
+            branches,
             opened: last,
         } = self;
-        match last {
-            Opened::Test {
-                line: test_line,
-                test,
-            } => {
-                branches.push(
-                    alloc,
-                    Branch {
-                        line: test_line,
-                        test,
-                        block,
-                    },
-                )?;
-                Ok(OpenIf {
-                    before,
-                    line: if_line,
-                    branches,
-                    opened,
-                })
-            }
-            Opened::Else { .. } => Err(SyntaxRefusal::BadNesting { line }),
-        }
+        let (test_line, test) = last.condition(line)?;
+        let branches = with_branch(alloc, branches, test_line, test, block)?;
+        Ok(OpenIf {
+            before,
+            line: if_line,
+            branches,
+            opened,
+        })
     }
 
     /// The block around the `if`, up to and with the `if`, whose last block is complete and whose `end` stands on the line.
@@ -71,46 +123,11 @@ impl OpenIf {
         let OpenIf {
             mut before,
             line,
-            mut branches,
+            branches,
             opened,
         } = self;
-        match opened {
-            Opened::Test {
-                line: test_line,
-                test,
-            } => {
-                branches.push(
-                    alloc,
-                    Branch {
-                        line: test_line,
-                        test,
-                        block,
-                    },
-                )?;
-                before.push(
-                    alloc,
-                    Statement::If {
-                        line,
-                        branches,
-                        else_line: 0,
-                        other: Many::new(alloc),
-                        end_line,
-                    },
-                )?;
-            }
-            Opened::Else { line: else_line } => {
-                before.push(
-                    alloc,
-                    Statement::If {
-                        line,
-                        branches,
-                        else_line,
-                        other: block,
-                        end_line,
-                    },
-                )?;
-            }
-        }
+        let whole = whole_if(alloc, line, branches, opened, block, end_line)?;
+        before.push(alloc, whole)?;
         Ok(before)
     }
 }

@@ -1,4 +1,5 @@
--- The canonical text of a program: its lines in order, each with its number and with how many blocks are open round it.
+-- The canonical text of a program: its lines in order, each with its number and with how many
+-- blocks are open round it.
 -- Source: this project's language.
 use Rattle.std.specs.Prelude.{ℕ, ◌+◌, ◌==◌, Bool, true, false, List, [], ◌∷◌, ◌++◌, map, flat_map, Option, Some, None, if◌then◌else◌}
 use Rattle.loop_data.specs.declared.expr.Expr.{Expr}
@@ -56,7 +57,8 @@ branch_step b first d = placed_at d b.line (condition first b.test) ∷ all_line
 abbrev pub statement_step : Statement-F Lines BranchLines → Lines
 statement_step (s.Let n names x) d = placed_at d n (l.Let names x) ∷ []
 statement_step (s.Set n name x) d = placed_at d n (l.Set name x) ∷ []
-statement_step (s.If n branches else_line other m) d = branches_lines branches d ++ else_lines else_line other d ++ placed_at d m l.End ∷ []
+statement_step (s.If n branches else_line other m) d =
+    branches_lines branches d ++ else_lines else_line other d ++ placed_at d m l.End ∷ []
 statement_step (s.Keep n name x) d = placed_at d n (l.Keep name x) ∷ []
 statement_step (s.Reduce n name x start) d = placed_at d n (l.Reduce name x start) ∷ []
 statement_step (s.Continue n) d = placed_at d n l.Continue ∷ []
@@ -81,7 +83,13 @@ abbrev pub print_line : PrintLine → Placed
 print_line p = placed_at 0 p.line (l.Print p.name)
 
 abbrev pub for_line : HeadLine → Placed
-for_line h = placed_at 0 h.line (l.For (record { names = h.names; axes = h.axes; product = h.product; inner = h.inner }))
+for_line h =
+    placed_at 0 h.line (l.For (record {
+      names = h.names;
+      axes = h.axes;
+      product = h.product;
+      inner = h.inner;
+    }))
 
 -- the line `on fault skip`, where it stands
 abbrev pub skip_lines : Option ℕ → List Placed
@@ -90,11 +98,15 @@ skip_lines (Some n) = placed_at 0 n l.SkipFaults ∷ []
 
 -- all lines of a program in order
 abbrev pub placed : ProgramTree → List Placed
-placed p = skip_lines p.skip_line ++ map var_line p.vars ++ for_line p.head ∷ map init_line p.scratch ++ block_lines p.body 1 ++ placed_at 0 p.head.end_line l.End ∷ map print_line p.prints
+placed p =
+    skip_lines p.skip_line ++ map var_line p.vars ++ for_line p.head ∷
+    map init_line p.scratch ++ block_lines p.body 1 ++ placed_at 0 p.head.end_line l.End ∷
+    map print_line p.prints
 
 abbrev pub row_of : Placed → Row
 row_of p = record { line = p.line; bytes = line_text p.depth p.form }
 
--- Each line stands on its own number, those that the program doesn't use are empty, and nothing follows the last.
+-- Each line stands on its own number, those that the program doesn't use are empty, and nothing
+-- follows the last.
 abbrev pub canonical_text : ProgramTree → List ℕ
 canonical_text p = rows_text 1 (map row_of (placed p))

@@ -11,7 +11,7 @@ use crate::lines::{
     write_print, write_reduce, write_set, write_var,
 };
 use crate::marks::write_keyword;
-use crate::rows::{Rows, deeper};
+use crate::rows::{Indent, Rows};
 use loop_data::{
     Binding, Branch, Expr, HeadLine, PrintLine, Statement, TextValue, TowerExpr, Value,
 };
@@ -21,9 +21,9 @@ use no_memory::NoMemory;
 use std::alloc::Global;
 
 /// A line of one word.
-fn word_line(rows: &mut Rows, line: u32, depth: usize, word: Keyword) -> Result<(), NoMemory>
+fn word_line(rows: &mut Rows, line: u32, depth: &Indent, word: Keyword) -> Result<(), NoMemory>
     ensures { OnOk result (
-        (form : Line) → IsWord form word → WroteLine rows.old rows.new depth line form) }
+        (form : Line) → IsWord form word → WroteLine rows.old rows.new depth.now line form) }
 {
     rows.begin(line, depth)?;
     write_keyword(&mut rows.text, word, false)?;
@@ -33,11 +33,11 @@ fn word_line(rows: &mut Rows, line: u32, depth: usize, word: Keyword) -> Result<
 fn let_line(
     rows: &mut Rows,
     line: u32,
-    depth: usize,
+    depth: &Indent,
     names: &[TextValue],
     expr: &Expr,
 ) -> Result<(), NoMemory>
-    ensures { OnOk result (WroteLine rows.old rows.new depth line (l.Let names.now expr.now)) }
+    ensures { OnOk result (WroteLine rows.old rows.new depth.now line (l.Let names.now expr.now)) }
 {
     rows.begin(line, depth)?;
     write_let(&mut rows.text, names, expr)?;
@@ -47,11 +47,11 @@ fn let_line(
 fn set_line(
     rows: &mut Rows,
     line: u32,
-    depth: usize,
+    depth: &Indent,
     name: &TextValue,
     expr: &Expr,
 ) -> Result<(), NoMemory>
-    ensures { OnOk result (WroteLine rows.old rows.new depth line (l.Set name.now expr.now)) }
+    ensures { OnOk result (WroteLine rows.old rows.new depth.now line (l.Set name.now expr.now)) }
 {
     rows.begin(line, depth)?;
     write_set(&mut rows.text, name, expr)?;
@@ -61,11 +61,11 @@ fn set_line(
 fn keep_line(
     rows: &mut Rows,
     line: u32,
-    depth: usize,
+    depth: &Indent,
     name: &TextValue,
     expr: &Expr,
 ) -> Result<(), NoMemory>
-    ensures { OnOk result (WroteLine rows.old rows.new depth line (l.Keep name.now expr.now)) }
+    ensures { OnOk result (WroteLine rows.old rows.new depth.now line (l.Keep name.now expr.now)) }
 {
     rows.begin(line, depth)?;
     write_keep(&mut rows.text, name, expr)?;
@@ -75,13 +75,13 @@ fn keep_line(
 fn reduce_line(
     rows: &mut Rows,
     line: u32,
-    depth: usize,
+    depth: &Indent,
     name: &TextValue,
     tower: &TowerExpr,
     start: &Option<Value>,
 ) -> Result<(), NoMemory>
     ensures { OnOk result (
-        WroteLine rows.old rows.new depth line (l.Reduce name.now tower.now start.now)) }
+        WroteLine rows.old rows.new depth.now line (l.Reduce name.now tower.now start.now)) }
 {
     rows.begin(line, depth)?;
     write_reduce(&mut rows.text, name, tower, start)?;
@@ -92,11 +92,11 @@ fn reduce_line(
 fn condition_line(
     rows: &mut Rows,
     line: u32,
-    depth: usize,
+    depth: &Indent,
     test: &Expr,
     first: bool,
 ) -> Result<(), NoMemory>
-    ensures { OnOk result (WroteLine rows.old rows.new depth line (condition first test.now)) }
+    ensures { OnOk result (WroteLine rows.old rows.new depth.now line (condition first test.now)) }
 {
     rows.begin(line, depth)?;
     write_condition(&mut rows.text, test, first)?;
@@ -104,8 +104,8 @@ fn condition_line(
 }
 
 #[cycle(statements)]
-fn write_statement(rows: &mut Rows, statement: &Statement, depth: usize) -> Result<(), NoMemory>
-    ensures { OnOk result (Wrote rows.old rows.new (statement_lines statement.now depth)) }
+fn write_statement(rows: &mut Rows, statement: &Statement, depth: &Indent) -> Result<(), NoMemory>
+    ensures { OnOk result (Wrote rows.old rows.new (statement_lines statement.now depth.now)) }
 {
     match statement {
         Statement::Let { line, names, expr } => {
@@ -136,8 +136,8 @@ fn write_statement(rows: &mut Rows, statement: &Statement, depth: usize) -> Resu
 }
 
 #[cycle(statements)]
-fn write_block(rows: &mut Rows, block: &[Statement], depth: usize) -> Result<(), NoMemory>
-    ensures { OnOk result (Wrote rows.old rows.new (block_lines block.now depth)) }
+fn write_block(rows: &mut Rows, block: &[Statement], depth: &Indent) -> Result<(), NoMemory>
+    ensures { OnOk result (Wrote rows.old rows.new (block_lines block.now depth.now)) }
 {
     for statement in block {
         write_statement(rows, statement, depth)?;
@@ -147,17 +147,24 @@ fn write_block(rows: &mut Rows, block: &[Statement], depth: usize) -> Result<(),
 
 /// A condition with its block, the first of its `if` or a further one.
 #[cycle(statements)]
-fn write_branch(rows: &mut Rows, branch: &Branch, depth: usize, first: bool) -> Result<(), NoMemory>
-    ensures { OnOk result (Wrote rows.old rows.new (branch_lines branch.now first depth)) }
+fn write_branch(
+    rows: &mut Rows,
+    branch: &Branch,
+    depth: &Indent,
+    first: bool,
+) -> Result<(), NoMemory>
+    ensures { OnOk result (Wrote rows.old rows.new (branch_lines branch.now first depth.now)) }
 {
     condition_line(rows, branch.line, depth, &branch.test, first)?;
-    write_block(rows, branch.block.as_slice(), deeper(depth)?)
+    let inside = depth.deeper()?;
+    write_block(rows, branch.block.as_slice(), &inside)?;
+    Ok(())
 }
 
 #[cycle(statements)]
-fn write_branches(rows: &mut Rows, branches: &[Branch], depth: usize) -> Result<(), NoMemory>
+fn write_branches(rows: &mut Rows, branches: &[Branch], depth: &Indent) -> Result<(), NoMemory>
     ensures { OnOk result (
-        Wrote rows.old rows.new (branches_lines (map branch_lines branches.now) depth)) }
+        Wrote rows.old rows.new (branches_lines (map branch_lines branches.now) depth.now)) }
 {
     for (i, branch) in branches.iter().enumerate() {
         write_branch(rows, branch, depth, i == 0)?;
@@ -167,22 +174,29 @@ fn write_branches(rows: &mut Rows, branches: &[Branch], depth: usize) -> Result<
 
 /// The `else` line with its block; where its line is 0 there is none.
 #[cycle(statements)]
-fn write_else(rows: &mut Rows, line: u32, block: &[Statement], depth: usize) -> Result<(), NoMemory>
+fn write_else(
+    rows: &mut Rows,
+    line: u32,
+    block: &[Statement],
+    depth: &Indent,
+) -> Result<(), NoMemory>
     ensures { OnOk result (
-        Wrote rows.old rows.new (else_lines line (map statement_lines block.now) depth)) }
+        Wrote rows.old rows.new (else_lines line (map statement_lines block.now) depth.now)) }
 {
     if line == 0 {
         return Ok(());
     }
     word_line(rows, line, depth, Keyword::Else)?;
-    write_block(rows, block, deeper(depth)?)
+    let inside = depth.deeper()?;
+    write_block(rows, block, &inside)?;
+    Ok(())
 }
 
 /// The line `on fault skip`.
 fn skip_line(rows: &mut Rows, line: u32) -> Result<(), NoMemory>
     ensures { OnOk result (WroteLine rows.old rows.new 0 line l.SkipFaults) }
 {
-    rows.begin(line, 0)?;
+    rows.begin_outside(line)?;
     write_on_fault_skip(&mut rows.text)?;
     rows.end()
 }
@@ -200,7 +214,7 @@ fn write_skip(rows: &mut Rows, line: Option<u32>) -> Result<(), NoMemory>
 fn one_var(rows: &mut Rows, var: &Binding) -> Result<(), NoMemory>
     ensures { OnOk result (Wrote rows.old rows.new (var_line var.now ∷ [])) }
 {
-    rows.begin(var.line, 0)?;
+    rows.begin_outside(var.line)?;
     write_var(&mut rows.text, &var.name, &var.value)?;
     rows.end()
 }
@@ -217,7 +231,7 @@ fn write_vars(rows: &mut Rows, vars: &[Binding]) -> Result<(), NoMemory>
 fn one_init(rows: &mut Rows, init: &Binding) -> Result<(), NoMemory>
     ensures { OnOk result (Wrote rows.old rows.new (init_line init.now ∷ [])) }
 {
-    rows.begin(init.line, 1)?;
+    rows.begin_in_loop(init.line)?;
     write_init(&mut rows.text, &init.name, &init.value)?;
     rows.end()
 }
@@ -234,7 +248,7 @@ fn write_scratch(rows: &mut Rows, scratch: &[Binding]) -> Result<(), NoMemory>
 fn write_head(rows: &mut Rows, head: &HeadLine) -> Result<(), NoMemory>
     ensures { OnOk result (Wrote rows.old rows.new (for_line head.now ∷ [])) }
 {
-    rows.begin(head.line, 0)?;
+    rows.begin_outside(head.line)?;
     write_for(&mut rows.text, head)?;
     rows.end()
 }
@@ -242,7 +256,7 @@ fn write_head(rows: &mut Rows, head: &HeadLine) -> Result<(), NoMemory>
 fn one_print(rows: &mut Rows, print: &PrintLine) -> Result<(), NoMemory>
     ensures { OnOk result (Wrote rows.old rows.new (print_line print.now ∷ [])) }
 {
-    rows.begin(print.line, 0)?;
+    rows.begin_outside(print.line)?;
     write_print(&mut rows.text, &print.name)?;
     rows.end()
 }
@@ -263,12 +277,14 @@ pub fn write_tree(alloc: Global, program: &ProgramTree) -> Result<Vec<u8>, NoMem
     ensures { IfOk result (λ v. v.items ≡ canonical_text program.now) }
 {
     let mut rows = Rows::new(alloc);
+    let outside = Indent::new(alloc);
+    let inside = outside.deeper()?;
     write_skip(&mut rows, program.skip_line)?;
     write_vars(&mut rows, program.vars.as_slice())?;
     write_head(&mut rows, &program.head)?;
     write_scratch(&mut rows, program.scratch.as_slice())?;
-    write_block(&mut rows, program.body.as_slice(), 1)?;
-    word_line(&mut rows, program.head.end_line, 0, Keyword::End)?;
+    write_block(&mut rows, program.body.as_slice(), &inside)?;
+    word_line(&mut rows, program.head.end_line, &outside, Keyword::End)?;
     write_prints(&mut rows, program.prints.as_slice())?;
     Ok(rows.text)
 }

@@ -1,9 +1,8 @@
 //! What no clause says: lines and towers by hand from the language's rules, and which refusal comes first.
 
 use loop_data::{Expr, Kind, TextValue, TowerExpr, Value};
-use loop_exprs::ReadError;
 use loop_grammar::{Line, SyntaxRefusal};
-use loop_lines::{one_line, one_saying, one_tower, one_verdict, read_line, read_tower};
+use loop_lines::{one_line, one_saying, one_tower, one_verdict, read_line};
 use loop_tokens::tokens;
 use no_memory::NoMemory;
 use std::alloc::Global;
@@ -21,13 +20,6 @@ fn fed(alloc: Global, kind: Kind, start: Option<Value>) -> Result<Line, NoMemory
     let expr = Expr::Name(TextValue::new(alloc, "x")?);
     let tower = TowerExpr::Leaf { kind, expr };
     Ok(Line::Reduce { name, tower, start })
-}
-
-/// The tower at the front of a line, whether a number in it is too wide, and how many tokens follow.
-fn front(alloc: Global, text: &str) -> Result<(TowerExpr, bool, usize), ReadError> {
-    let line = tokens(alloc, text)?;
-    let (tower, wide, rest) = read_tower(alloc, line.tokens.as_slice())?;
-    Ok((tower, wide, rest.len()))
 }
 
 #[test]
@@ -83,10 +75,14 @@ fn reads_each_reduce_line(rt: HostRuntime) -> Result<(), Fail> {
 }
 
 #[test]
-fn reads_a_tower_up_to_its_end(rt: HostRuntime) {
-    assert_eq!(rt;
-        front(rt.alloc(), "count() from 1"),
-        Ok((TowerExpr::Count, false, 2))
-    );
+fn reads_a_count_and_its_start(rt: HostRuntime) -> Result<(), Fail> {
+    let want = Line::Reduce {
+        name: TextValue::new(rt.alloc(), "s")?,
+        tower: TowerExpr::Count,
+        start: Some(Value::Int(1)),
+    };
+    let text = "@reduce s = count() from 1";
+    assert_eq!(rt; said(rt.alloc(), text), Ok(Some(want)));
     one_tower();
+    Ok(())
 }

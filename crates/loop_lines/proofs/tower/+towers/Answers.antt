@@ -24,7 +24,7 @@ pub group-returns-in_err-inner-clause-reads : goal.group-returns-in_err-inner-cl
 group-returns-in_err-inner-clause-reads t c = passes (Tells (TowerUpTo sg.Close c.in_ok-key.rest.now)) (Tells (TowerAt (tok.Keyword kw.Group ∷ tok.Sign sg.Open ∷ c.args.tokens.now))) seen seen c.in_err-inner.field-0.0 c.from_residual-in_err-inner.result (no_inner c.in_ok-key.key c.in_ok-key.wide c.args.tokens.now c.in_ok-key.rest.now c.in_ok-key.ensures.reads) c.in_err-inner.ensures.reads (search rules)
 
 pub group-returns-clause-reads : goal.group-returns-clause-reads
-group-returns-clause-reads t c = rw (c.in_ok-whole.ensures, c.either-any_wide.ensures) (SpellsTower.grouped c.in_ok-key.ensures.reads c.in_ok-inner.ensures.reads)
+group-returns-clause-reads t c = rw c.in_ok-whole.ensures (SpellsTower.grouped c.in_ok-key.ensures.reads c.in_ok-inner.ensures.reads)
 
 pub both-returns-in_err-left-clause-reads : goal.both-returns-in_err-left-clause-reads
 both-returns-in_err-left-clause-reads t c = passes (Tells (TowerUpTo sg.Comma c.args.tokens.now)) (Tells (TowerAt (tok.Keyword kw.Both ∷ tok.Sign sg.Open ∷ c.args.tokens.now))) seen seen c.in_err-left.field-0.0 c.from_residual.result (no_left c.args.tokens.now) c.in_err-left.ensures.reads (search rules)
@@ -33,4 +33,4 @@ pub both-returns-in_err-right-clause-reads : goal.both-returns-in_err-right-clau
 both-returns-in_err-right-clause-reads t c = passes (Tells (TowerUpTo sg.Close c.in_ok-left.rest.now)) (Tells (TowerAt (tok.Keyword kw.Both ∷ tok.Sign sg.Open ∷ c.args.tokens.now))) seen seen c.in_err-right.field-0.0 c.from_residual-in_err-right.result (no_right c.in_ok-left.left c.in_ok-left.wide c.args.tokens.now c.in_ok-left.rest.now c.in_ok-left.ensures.reads) c.in_err-right.ensures.reads (search rules)
 
 pub both-returns-clause-reads : goal.both-returns-clause-reads
-both-returns-clause-reads t c = rw (c.in_ok-whole.ensures, c.either-any_wide.ensures) (SpellsTower.both c.in_ok-left.ensures.reads c.in_ok-right.ensures.reads)
+both-returns-clause-reads t c = rw c.in_ok-whole.ensures (SpellsTower.both c.in_ok-left.ensures.reads c.in_ok-right.ensures.reads)
