@@ -1,5 +1,5 @@
 -- The lines of a program are read to the end, as that program.
-use Rattle.std.proofs.Common.{◌≡◌, ℕ, ◌+◌, zero, suc, nat_lt, List, [], ◌∷◌, ◌++◌, length, Option, Some, None, Ok, Err, if◌then◌else◌, refl, ap, sym, ◌∙◌, append_assoc, append-nil, arith}
+use Rattle.std.proofs.Common.{◌≡◌, ℕ, ◌+◌, zero, suc, nat_lt, List, [], ◌∷◌, ◌++◌, length, Option, Ok, Err, if◌then◌else◌, refl, ap, sym, ◌∙◌, append_assoc, append-nil, arith}
 use Rattle.std.proofs.lemmas.Bool.{lt-ltb}
 use Rattle.loop_data.specs.declared.expr.Expr.{Expr}
 use Rattle.loop_data.specs.declared.statement.Statement.{Statement}
@@ -20,7 +20,7 @@ use Rattle.loop_nesting.specs.declared.open.Preface.{Preface}
 use Rattle.loop_nesting.specs.declared.open.OpenLoop.{OpenLoop}
 use Rattle.loop_nesting.specs.declared.open.OpenIf.{OpenIf}
 use Rattle.loop_nesting.specs.declared.open.Opened.TheVariants as opened
-use Rattle.loop_nesting.specs.Reading.{no_preface, add_var, entered, with_scratch, whole_loop, run, run_on}
+use Rattle.loop_nesting.specs.Reading.{add_var, entered, with_scratch, whole_loop, run, run_on}
 
 -- the loop with these open `if`s and this block
 abbrev here : OpenLoop → List OpenIf → List Statement → Stage

@@ -23,7 +23,7 @@ use Rattle.loop_nesting.specs.declared.open.OpenLoop.{OpenLoop}
 use Rattle.loop_nesting.specs.declared.open.OpenIf.{OpenIf}
 use Rattle.loop_nesting.specs.declared.open.Opened.{Opened}
 use Rattle.loop_nesting.specs.declared.open.Opened.TheVariants as opened
-use Rattle.loop_nesting.specs.Reading.{Answer, no_preface, add_var, at_start, in_vars, in_loop, in_prints, with_scratch, init_at, deeper, branched, onward, next_branch, ended, closed, whole_if, whole_loop, entered, step, run, run_on}
+use Rattle.loop_nesting.specs.Reading.{Answer, no_preface, at_start, in_vars, in_loop, in_prints, with_scratch, init_at, deeper, branched, onward, next_branch, ended, closed, whole_if, whole_loop, entered, step, run, run_on}
 
 -- ---- what is still to come
 

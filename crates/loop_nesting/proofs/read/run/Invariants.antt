@@ -1,4 +1,4 @@
-use Rattle.std.proofs.Common.{◌≡◌, [], length}
+use Rattle.std.proofs.Common.{◌≡◌, length}
 use Rattle.loop_nesting.specs.declared.open.Stage.TheVariants as stage
 use Rattle.loop_nesting.specs.Reading.{run, most_ifs}
 use Rattle.loop_nesting.proofs.read.run.Given as goal

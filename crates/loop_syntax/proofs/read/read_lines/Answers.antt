@@ -1,8 +1,8 @@
-use Rattle.std.proofs.Common.{◌≡◌, ◌+◌, sym, ap, ◌∙◌, subst, arith, map}
+use Rattle.std.proofs.Common.{◌+◌, ap, ◌∙◌, arith, map}
 use Rattle.std.proofs.lemmas.Result.{err_from_is_err_and}
 use Rattle.loop_tokens.specs.Lines.{lines_of}
 use Rattle.loop_grammar.specs.Texts.{FirstLineRefusal}
-use Rattle.loop_syntax.proofs.ReadLemmas.{begin, finish_at, at, step_at, refused_at, passed_on}
+use Rattle.loop_syntax.proofs.ReadLemmas.{finish_at, at, step_at, refused_at, passed_on}
 use Rattle.loop_syntax.proofs.read.read_lines.Goals as goal
 
 pub returns-in_err-form-clause-refused : goal.returns-in_err-form-clause-refused

@@ -1,4 +1,4 @@
-use Rattle.std.proofs.Common.{◌≡◌, ◌+◌, ◌≤◌, length, map}
+use Rattle.std.proofs.Common.{◌≡◌, ◌+◌, map}
 use Rattle.loop_syntax.proofs.ReadLemmas.{Reading}
 use Rattle.loop_syntax.proofs.read.read_lines.Given as goal
 
