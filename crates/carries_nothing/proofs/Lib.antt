@@ -1,0 +1,12 @@
+pub mod Carried
+pub mod Cuts
+pub mod EntryNames
+pub mod KeptStores
+pub mod LegalLemmas
+pub mod OpenPaths
+pub mod ReadNames
+pub mod SameBlocks
+pub mod SameNames
+pub mod SameSteps
+pub mod ScopeLemmas
+pub mod SpotLemmas
