@@ -22,7 +22,7 @@ use Rattle.carries_nothing.specs.Alike.{Alike, IsReached, IsStore, at_start, one
 use Rattle.carries_nothing.specs.Laws.{LegalCarriesNothing, PartsEndAsWhole, ReachedRunsAsStart, ReachedStepsAsStart, StopsLeftmost}
 use Rattle.carries_nothing.specs.Parts.{CarriesNothing, SameRun, from_start}
 use Rattle.carries_nothing.proofs.KeptStores.{alike_agrees, start_is_store, step_alike, step_leaves_store}
-use Rattle.carries_nothing.proofs.SameNames.{Agree}
+use Rattle.carries_nothing.specs.Blocks.{Agree}
 use Rattle.carries_nothing.proofs.SameSteps.{hidden, step_same}
 
 -- ---- runs that give the same

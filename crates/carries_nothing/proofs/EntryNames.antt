@@ -17,7 +17,8 @@ use Rattle.legality_rules.specs.Paths as paths
 use Rattle.legality_rules.specs.Paths.{Branching, Path, after, assigns, branch_paths, followed_by, is_reached, line_reads, paths_in_turn, paths_of_one, paths_step, reads_first, statement_paths}
 use Rattle.legality_rules.specs.Scopes.{Scope, is_in, sort_in}
 use Rattle.loop_meaning.specs.Assigned.{all_assigned, assigned_in, assigned_in_branch, assigned_in_branch_step, assigned_step}
-use Rattle.carries_nothing.proofs.OpenPaths.{IsSome, assigned_on, first_joined, line_reaches, misses, reached_after, reached_either, reached_in_turn, some_after, some_either, some_in_turn}
+use Rattle.carries_nothing.specs.Blocks.{assigned_on, misses}
+use Rattle.carries_nothing.proofs.OpenPaths.{IsSome, first_joined, line_reaches, reached_after, reached_either, reached_in_turn, some_after, some_either, some_in_turn}
 use Rattle.carries_nothing.proofs.ScopeLemmas.{sort_stays}
 
 -- ---- truth values

@@ -18,7 +18,8 @@ use Rattle.loop_meaning.specs.Stores.{names_of, start_store, stored_names, varia
 use Rattle.loop_meaning.proofs.StayLemmas.{others_stay}
 use Rattle.carries_nothing.specs.Alike.{Alike, IsStore, SameStep, is_lasting, is_scratch, is_variable}
 use Rattle.carries_nothing.proofs.LegalLemmas.{lasting_untouched}
-use Rattle.carries_nothing.proofs.SameNames.{Agree, first_false, get_inserted, second_false}
+use Rattle.carries_nothing.specs.Blocks.{Agree}
+use Rattle.carries_nothing.proofs.SameNames.{first_false, get_inserted, second_false}
 use Rattle.carries_nothing.proofs.SameSteps.{hidden, keeping_others, step_same}
 
 -- ---- names that are no names of the store have no value

@@ -9,4 +9,5 @@ pub mod SameBlocks
 pub mod SameNames
 pub mod SameSteps
 pub mod ScopeLemmas
+pub mod SpelledNames
 pub mod SpotLemmas

@@ -4,6 +4,7 @@ use Rattle.std.specs.Prelude.{◌==◌, not, ◌&&◌, ◌||◌, if◌then◌els
 use Rattle.std.specs.List.{list_any}
 use Rattle.std.specs.Str.{bytes_eq}
 use Rattle.legality_rules.specs.Scopes.{is_in}
+use Rattle.carries_nothing.specs.Blocks.{assigned_on, misses, misses_on}
 use Rattle.legality_rules.specs.Paths.{Event, reads, assigns, Path, after, followed_by, line_reads, reads_first, is_reached}
 
 -- ---- truth values
@@ -29,11 +30,6 @@ and_false true = refl
 and_false false = refl
 
 -- ---- events
-
-abbrev pub assigned_on : List ℕ → List Event → Bool
-assigned_on n [] = false
-assigned_on n (reads l m ∷ es) = assigned_on n es
-assigned_on n (assigns m ∷ es) = bytes_eq n m || assigned_on n es
 
 guarded : (b r a q : Bool) → (not b && (r || (not a && q))) ≡ ((not b && r) || (not (b || a) && q))
 guarded true r a q = refl
@@ -68,13 +64,6 @@ line_reaches l n k (m ∷ ns) =
     ap (λ b. (k == l && bytes_eq n m) || b) (line_reaches l n k ns) ∙ one_or_rest (k == l) (bytes_eq n m) (is_in ns n)
 
 -- ---- paths
-
-abbrev pub misses_on : List ℕ → Path → Bool
-misses_on n path = path.goes_on && not (assigned_on n path.events)
-
--- some path goes on without assigning the name
-abbrev pub misses : List ℕ → List Path → Bool
-misses n ps = list_any (misses_on n) ps
 
 abbrev pub IsSome : List Path → Type 0
 IsSome [] = ⊥

@@ -27,37 +27,14 @@ use Rattle.loop_meaning.specs.declared.steps.BodyRun.{BodyRun}
 use Rattle.loop_meaning.specs.declared.steps.Flow.{Flow}
 use Rattle.loop_meaning.specs.declared.steps.Flow.TheVariants.{Going, Continued, Broke, Faulted}
 use Rattle.loop_meaning.specs.Statements.{Action, Choice, branch_run, branch_step, emitting, ending, evaluating, first_true, in_turn, is_going, keeping_something, matching, naming, statement_run, statement_step, while_going, with_value}
-use Rattle.carries_nothing.proofs.OpenPaths.{IsSome, and_assoc, assigned_joined, assigned_on, first_joined, line_reaches, misses, missed_after, missed_either, missed_in_turn, reached_after, reached_either, reached_in_turn, reads_assign_none, some_after, some_either, some_in_turn}
-use Rattle.carries_nothing.proofs.SameNames.{Agree, Doubt, IsSure, first_false, input_same, insert_agrees, pattern_agrees, second_false, set_same, value_same}
-
--- ---- names that may differ
-
--- these names, all of which are among those that may differ at all, and `place` isn't
-pub record IsDoubt (may now : Doubt) : Type 0 where
-  pub less : (n : List ℕ) → may n ≡ false → now n ≡ false
-  pub placed : now place_name ≡ false
-
--- the names that may differ where the paths go on
-abbrev pub left_in_doubt : Doubt → List Path → Doubt
-left_in_doubt now ps n = now n && misses n ps
-
--- no path reaches a read of a name that may differ
-abbrev pub IsClear : Doubt → List Path → Type 0
-IsClear now ps = (n : List ℕ) → now n ≡ true → (line : ℕ) → is_reached ps line n ≡ false
-
--- Two body runs stand alike: but for names that may differ at all, their names agree; where they go on, but for those that may
--- differ now.
-pub record Same (may now : Doubt) (a b : BodyRun) : Type 0 where
-  pub doubt : IsDoubt may now
-  pub emitted : a.emitted ≡ b.emitted
-  pub flow : a.flow ≡ b.flow
-  pub names : Agree may a.names b.names
-  pub surely : a.flow ≡ Going → Agree now a.names b.names
+use Rattle.carries_nothing.specs.Blocks.{BlocksKeepAlike, Doubt, IsClear, IsDoubt, StandAlike, assigned_on, block_paths, left_in_doubt, misses}
+use Rattle.carries_nothing.proofs.OpenPaths.{IsSome, and_assoc, assigned_joined, first_joined, line_reaches, missed_after, missed_either, missed_in_turn, reached_after, reached_either, reached_in_turn, reads_assign_none, some_after, some_either, some_in_turn}
+use Rattle.carries_nothing.proofs.SameNames.{IsSure, first_false, input_same, insert_agrees, pattern_agrees, second_false, set_same, value_same}
 
 -- what an action does, where the body run goes on, fits its paths
 pub record Fits (action : Action) (ps : List Path) : Type 0 where
   pub some : IsSome ps
-  pub same : (may now : Doubt) (a b : BodyRun) → Same may now a b → a.flow ≡ Going → IsClear now ps → Same may (left_in_doubt now ps) (action a) (action b)
+  pub same : (may now : Doubt) (a b : BodyRun) → StandAlike may now a b → a.flow ≡ Going → IsClear now ps → StandAlike may (left_in_doubt now ps) (action a) (action b)
 
 -- ---- truth values
 
@@ -84,15 +61,15 @@ pub fewer : (may now : Doubt) (ps : List Path) → IsDoubt may now → IsDoubt m
 fewer may now ps d = record { less = λ n sure. and_left (now n) (misses n ps) (d.less n sure); placed = and_left (now place_name) (misses place_name ps) d.placed }
 
 -- more names may differ
-pub widen : (may now more : Doubt) (a b : BodyRun) → IsDoubt may more → ((n : List ℕ) → more n ≡ false → now n ≡ false) → Same may now a b → Same may more a b
+pub widen : (may now more : Doubt) (a b : BodyRun) → IsDoubt may more → ((n : List ℕ) → more n ≡ false → now n ≡ false) → StandAlike may now a b → StandAlike may more a b
 widen may now more a b d wider s = record { doubt = d; emitted = s.emitted; flow = s.flow; names = s.names; surely = λ on n sure. s.surely on n (wider n sure) }
 
 -- ---- body runs that don't go on
 
-over : (may now later : Doubt) (a b : BodyRun) → IsDoubt may later → (a.flow ≡ Going → ⊥) → Same may now a b → Same may later a b
+over : (may now later : Doubt) (a b : BodyRun) → IsDoubt may later → (a.flow ≡ Going → ⊥) → StandAlike may now a b → StandAlike may later a b
 over may now later a b d isnt s = record { doubt = d; emitted = s.emitted; flow = s.flow; names = s.names; surely = λ on. absurd (isnt on) }
 
-pub ends_same : (may now later : Doubt) (a b : BodyRun) (x : Flow) → IsDoubt may later → (x ≡ Going → ⊥) → Same may now a b → Same may later (ending x a) (ending x b)
+pub ends_same : (may now later : Doubt) (a b : BodyRun) (x : Flow) → IsDoubt may later → (x ≡ Going → ⊥) → StandAlike may now a b → StandAlike may later (ending x a) (ending x b)
 ends_same may now later a b x d isnt s = record { doubt = d; emitted = s.emitted; flow = refl; names = s.names; surely = λ on. absurd (isnt on) }
 
 continued_isnt : Continued ≡ Going → ⊥
@@ -116,19 +93,19 @@ not_going_so x e h = absurd (let g = ap is_going h in cc)
 -- ---- one action after another
 
 -- where the body runs have ended nothing is done
-pub while_same : (may now later : Doubt) (action : Action) (a b : BodyRun) → IsDoubt may later → Same may now a b →
-    (a.flow ≡ Going → Same may later (action a) (action b)) → Same may later (while_going action a) (while_going action b)
+pub while_same : (may now later : Doubt) (action : Action) (a b : BodyRun) → IsDoubt may later → StandAlike may now a b →
+    (a.flow ≡ Going → StandAlike may later (action a) (action b)) → StandAlike may later (while_going action a) (while_going action b)
 while_same may now later action a b d s next =
-    subst (λ g. Same may later (if is_going a.flow then action a else a) (if g then action b else b)) (ap is_going s.flow) (at (is_going a.flow) refl)
+    subst (λ g. StandAlike may later (if is_going a.flow then action a else a) (if g then action b else b)) (ap is_going s.flow) (at (is_going a.flow) refl)
   where
-    at : (g : Bool) → is_going a.flow ≡ g → Same may later (if g then action a else a) (if g then action b else b)
+    at : (g : Bool) → is_going a.flow ≡ g → StandAlike may later (if g then action a else a) (if g then action b else b)
     at true e = next (is_going_so a.flow e)
     at false e = over may now later a b d (not_going_so a.flow e) s
 
 -- what several things do, one after another, fits their paths
 pub record AllFit (actions : List Action) (ps : List Path) : Type 0 where
   pub some : IsSome ps
-  pub same : (may now : Doubt) (a b : BodyRun) → Same may now a b → IsClear now ps → Same may (left_in_doubt now ps) (in_turn actions a) (in_turn actions b)
+  pub same : (may now : Doubt) (a b : BodyRun) → StandAlike may now a b → IsClear now ps → StandAlike may (left_in_doubt now ps) (in_turn actions a) (in_turn actions b)
 
 abbrev each_followed : List Path → List Path → List Path
 each_followed ps rest = flat_map (followed_by rest) ps
@@ -151,7 +128,7 @@ more_fit action actions ps qs first rest = record {
       let all : Doubt = left_in_doubt now (each_followed ps qs) in
       let here : IsClear now ps = λ n h line. first_false (is_reached ps line n) (misses n ps && is_reached qs line n) (sym (reached_in_turn ps qs line n rest.some) ∙ clear n h line) in
       let there : IsClear mid qs = λ n h line. in_rest now n line (clear n (and_both (now n) (misses n ps) h).0 line) (and_both (now n) (misses n ps) h).1 in
-      let one : Same may mid (while_going action a) (while_going action b) = while_same may now mid action a b (fewer may now ps s.doubt) s (λ on. first.same may now a b s on here) in
+      let one : StandAlike may mid (while_going action a) (while_going action b) = while_same may now mid action a b (fewer may now ps s.doubt) s (λ on. first.same may now a b s on here) in
       widen may (left_in_doubt mid qs) all (in_turn actions (while_going action a)) (in_turn actions (while_going action b)) (fewer may now (each_followed ps qs) s.doubt)
       (λ n sure. sym (and_assoc (now n) (misses n ps) (misses n qs)) ∙ ap (λ b. now n && b) (sym (missed_in_turn ps qs n)) ∙ sure)
       (rest.same may mid (while_going action a) (while_going action b) one there);
@@ -163,15 +140,15 @@ more_fit action actions ps qs first rest = record {
 
 -- ---- the value of what stands on a line
 
-value_first : (may now later : Doubt) (line : ℕ) (o : Outcome) (a b : BodyRun) (k : Value → Action) → IsDoubt may later → Same may now a b → ((v : Value) → Same may later (k v a) (k v b)) →
-    Same may later (with_value line o k a) (with_value line o k b)
+value_first : (may now later : Doubt) (line : ℕ) (o : Outcome) (a b : BodyRun) (k : Value → Action) → IsDoubt may later → StandAlike may now a b → ((v : Value) → StandAlike may later (k v a) (k v b)) →
+    StandAlike may later (with_value line o k a) (with_value line o k b)
 value_first may now later line (Ok v) a b k d s h = h v
 value_first may now later line (Err stop) a b k d s h = ends_same may now later a b (Faulted line (fault_number stop)) d (faulted_isnt line (fault_number stop)) s
 
-pub evaluated : (may now later : Doubt) (line : ℕ) (m : Meaning) (a b : BodyRun) (k : Value → Action) → IsDoubt may later → Same may now a b → m (get a.names) ≡ m (get b.names) →
-    ((v : Value) → Same may later (k v a) (k v b)) → Same may later (evaluating line m k a) (evaluating line m k b)
+pub evaluated : (may now later : Doubt) (line : ℕ) (m : Meaning) (a b : BodyRun) (k : Value → Action) → IsDoubt may later → StandAlike may now a b → m (get a.names) ≡ m (get b.names) →
+    ((v : Value) → StandAlike may later (k v a) (k v b)) → StandAlike may later (evaluating line m k a) (evaluating line m k b)
 evaluated may now later line m a b k d s is h =
-    subst (λ z. Same may later (with_value line (m (get a.names)) k a) (with_value line z k b)) is (value_first may now later line (m (get a.names)) a b k d s h)
+    subst (λ z. StandAlike may later (with_value line (m (get a.names)) k a) (with_value line z k b)) is (value_first may now later line (m (get a.names)) a b k d s h)
 
 -- ---- what a line reads
 
@@ -213,8 +190,8 @@ set_leaves now line names name n h isnt =
 
 -- ---- names that are bound or assigned on a line
 
-named_same : (may now later : Doubt) (a b : BodyRun) (name : List ℕ) (v : Value) → IsDoubt may later → Same may now a b → a.flow ≡ Going →
-    ((n : List ℕ) → later n ≡ false → bytes_eq n name ≡ false → now n ≡ false) → Same may later (naming name v a) (naming name v b)
+named_same : (may now later : Doubt) (a b : BodyRun) (name : List ℕ) (v : Value) → IsDoubt may later → StandAlike may now a b → a.flow ≡ Going →
+    ((n : List ℕ) → later n ≡ false → bytes_eq n name ≡ false → now n ≡ false) → StandAlike may later (naming name v a) (naming name v b)
 named_same may now later a b name v d s on less = record {
   doubt = d;
   emitted = s.emitted;
@@ -223,8 +200,8 @@ named_same may now later a b name v d s on less = record {
   surely = λ _ n sure. set_same a.names b.names name n v (λ isnt. s.surely on n (less n sure isnt));
 }
 
-matched_same : (may now later : Doubt) (a b : BodyRun) (pattern : List (List ℕ)) (v : Value) → IsDoubt may later → Same may now a b → a.flow ≡ Going →
-    ((n : List ℕ) → later n ≡ false → now n ≡ false) → Same may later (matching pattern v a) (matching pattern v b)
+matched_same : (may now later : Doubt) (a b : BodyRun) (pattern : List (List ℕ)) (v : Value) → IsDoubt may later → StandAlike may now a b → a.flow ≡ Going →
+    ((n : List ℕ) → later n ≡ false → now n ≡ false) → StandAlike may later (matching pattern v a) (matching pattern v b)
 matched_same may now later a b pattern v d s on less = record {
   doubt = d;
   emitted = s.emitted;
@@ -233,13 +210,13 @@ matched_same may now later a b pattern v d s on less = record {
   surely = λ _ n sure. pattern_agrees now pattern v a.names b.names (s.surely on) n (less n sure);
 }
 
-kept_same : (may now later : Doubt) (a b : BodyRun) (name : List ℕ) (v : Value) → IsDoubt may later → Same may now a b → a.flow ≡ Going →
-    ((n : List ℕ) → later n ≡ false → now n ≡ false) → Same may later (keeping_something name v a) (keeping_something name v b)
+kept_same : (may now later : Doubt) (a b : BodyRun) (name : List ℕ) (v : Value) → IsDoubt may later → StandAlike may now a b → a.flow ≡ Going →
+    ((n : List ℕ) → later n ≡ false → now n ≡ false) → StandAlike may later (keeping_something name v a) (keeping_something name v b)
 kept_same may now later a b name Nothing d s on less = ends_same may now later a b Continued d continued_isnt s
 kept_same may now later a b name v d s on less = named_same may now later a b name v d s on (λ n sure isnt. less n sure)
 
-emitted_same : (may now later : Doubt) (a b : BodyRun) (name : List ℕ) (v : Value) → IsDoubt may later → Same may now a b → a.flow ≡ Going →
-    ((n : List ℕ) → later n ≡ false → now n ≡ false) → Same may later (emitting name v a) (emitting name v b)
+emitted_same : (may now later : Doubt) (a b : BodyRun) (name : List ℕ) (v : Value) → IsDoubt may later → StandAlike may now a b → a.flow ≡ Going →
+    ((n : List ℕ) → later n ≡ false → now n ≡ false) → StandAlike may later (emitting name v a) (emitting name v b)
 emitted_same may now later a b name v d s on less = record {
   doubt = d;
   emitted = ap (λ l. l ++ record { name = name; input = v } ∷ []) s.emitted;
@@ -257,8 +234,8 @@ BranchFits choice branching = (other : Action) (ps : List Path) → Fits other p
 all_fits : (actions : List Action) (ps : List Path) → AllFit actions ps → Fits (in_turn actions) ps
 all_fits actions ps h = record { some = h.some; same = λ may now a b s on clear. h.same may now a b s clear }
 
-chosen_same : (may later : Doubt) (a b : BodyRun) (block other : Action) (c : Bool) → Same may later (block a) (block b) → Same may later (other a) (other b) →
-    Same may later ((if c then block else other) a) ((if c then block else other) b)
+chosen_same : (may later : Doubt) (a b : BodyRun) (block other : Action) (c : Bool) → StandAlike may later (block a) (block b) → StandAlike may later (other a) (other b) →
+    StandAlike may later ((if c then block else other) a) ((if c then block else other) b)
 chosen_same may later a b block other true here there = here
 chosen_same may later a b block other false here there = there
 
@@ -293,10 +270,10 @@ branch_fits line test block other ps qs here there = record {
       let d : IsDoubt may later = fewer may now all s.doubt in
       let sure : IsSure now (names_read test) = read_sure now line (names_read test) (ps ++ qs) some clear in
       let clear_both : IsClear now (ps ++ qs) = λ n h l. past_reads line (names_read test) (ps ++ qs) l n some (clear n h l) in
-      let one : Same may later (block a) (block b) =
+      let one : StandAlike may later (block a) (block b) =
       widen may (left_in_doubt now ps) later (block a) (block b) d (λ n h. (left now n h).0)
       (here.same may now a b s on (λ n h l. first_false (is_reached ps l n) (is_reached qs l n) (sym (reached_either ps qs l n) ∙ clear_both n h l))) in
-      let two : Same may later (other a) (other b) =
+      let two : StandAlike may later (other a) (other b) =
       widen may (left_in_doubt now qs) later (other a) (other b) d (λ n h. (left now n h).1)
       (there.same may now a b s on (λ n h l. second_false (is_reached ps l n) (is_reached qs l n) (sym (reached_either ps qs l n) ∙ clear_both n h l))) in
       evaluated may now later line (value_of test) a b (λ v. if as_bool v then block else other) d s (value_same now test a.names b.names s.doubt.placed (s.surely on) sure)
@@ -383,9 +360,6 @@ bare e = e.0
 abbrev bare_branch : SuchBranch → Branch
 bare_branch e = e.0
 
-abbrev block_paths : List Statement → List Path
-block_paths xs = paths_in_turn (map statement_paths xs)
-
 block_fits : (xs : List Such) → AllFit (map statement_run (map bare xs)) (block_paths (map bare xs))
 block_fits [] = none_fit
 block_fits (x ∷ xs) = more_fit (statement_run x.0) (map statement_run (map bare xs)) (statement_paths x.0) (block_paths (map bare xs)) x.1 (block_fits xs)
@@ -444,6 +418,9 @@ statement_fits = ind-Statement IsFit IsFitBranch
     (λ x y is. rolled_branch x (subst (λ w. BranchFits (BranchRunOf w) (BranchPathsOf w)) is (branch_layer_fits y)))
 
 -- what a block does fits its paths
-pub all_statements_fit : (xs : List Statement) → AllFit (map statement_run xs) (paths_in_turn (map statement_paths xs))
+pub all_statements_fit : (xs : List Statement) → AllFit (map statement_run xs) (block_paths xs)
 all_statements_fit [] = none_fit
-all_statements_fit (x ∷ xs) = more_fit (statement_run x) (map statement_run xs) (statement_paths x) (paths_in_turn (map statement_paths xs)) (statement_fits x) (all_statements_fit xs)
+all_statements_fit (x ∷ xs) = more_fit (statement_run x) (map statement_run xs) (statement_paths x) (block_paths xs) (statement_fits x) (all_statements_fit xs)
+
+pub blocks_keep_alike : BlocksKeepAlike
+blocks_keep_alike block may now run other alike clear = (all_statements_fit block).same may now run other alike clear

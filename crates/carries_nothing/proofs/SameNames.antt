@@ -18,15 +18,8 @@ use Rattle.tower_inputs.specs.Towers.{names_read_in_tower}
 use Rattle.tower_inputs.proofs.InputNames.{input_settled}
 use Rattle.legality_rules.specs.Scopes.{is_in}
 use Rattle.loop_meaning.specs.Statements.{with_parts, with_pattern}
+use Rattle.carries_nothing.specs.Blocks.{Agree, Doubt}
 use Rattle.carries_nothing.proofs.ReadNames.{asked, asked_tower}
-
--- which names may differ
-abbrev pub Doubt : Type 0
-Doubt = List ℕ → Bool
-
--- all names but those that may differ have the same values in both
-abbrev pub Agree : Doubt → Bindings → Bindings → Type 0
-Agree may e f = (n : List ℕ) → may n ≡ false → get e n ≡ get f n
 
 -- none of the names may differ
 abbrev pub IsSure : Doubt → List (List ℕ) → Type 0

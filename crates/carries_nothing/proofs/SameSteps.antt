@@ -31,8 +31,9 @@ use Rattle.loop_meaning.specs.Stores.{keeping, stored_names, with_found}
 use Rattle.carries_nothing.specs.Alike.{is_scratch}
 use Rattle.carries_nothing.proofs.LegalLemmas.{NoneRead, heads_unread, never_reached}
 use Rattle.carries_nothing.proofs.ReadNames.{asked}
-use Rattle.carries_nothing.proofs.SameBlocks.{IsClear, IsDoubt, Same, all_statements_fit, ends_same, while_same}
-use Rattle.carries_nothing.proofs.SameNames.{Agree, Doubt, IsSure, first_false, get_inserted, insert_agrees, pattern_agrees, same_at, second_false}
+use Rattle.carries_nothing.specs.Blocks.{Agree, Doubt, IsClear, IsDoubt, StandAlike}
+use Rattle.carries_nothing.proofs.SameBlocks.{all_statements_fit, ends_same, while_same}
+use Rattle.carries_nothing.proofs.SameNames.{IsSure, first_false, get_inserted, insert_agrees, pattern_agrees, same_at, second_false}
 
 -- ---- the names of the store alone
 
@@ -75,10 +76,10 @@ keeping_others (m ∷ ms) n e a isnt =
 
 -- where the body runs go on, but for names that may differ at all
 pub record Stays (may : Doubt) (action : Action) : Type 0 where
-  pub same : (a b : BodyRun) → Same may may a b → a.flow ≡ Going → Same may may (action a) (action b)
+  pub same : (a b : BodyRun) → StandAlike may may a b → a.flow ≡ Going → StandAlike may may (action a) (action b)
 
 -- several, one after another
-each_stays : {X : Type 0} (may : Doubt) (one : X → Action) → ((x : X) → Stays may (one x)) → (xs : List X) (a b : BodyRun) → Same may may a b → Same may may (in_turn (map one xs) a) (in_turn (map one xs) b)
+each_stays : {X : Type 0} (may : Doubt) (one : X → Action) → ((x : X) → Stays may (one x)) → (xs : List X) (a b : BodyRun) → StandAlike may may a b → StandAlike may may (in_turn (map one xs) a) (in_turn (map one xs) b)
 each_stays may one h [] a b s = s
 each_stays may one h (x ∷ xs) a b s =
     each_stays may one h xs (while_going (one x) a) (while_going (one x) b) (while_same may may may (one x) a b s.doubt s (λ on. (h x).same a b s on))
@@ -119,11 +120,11 @@ items_same may r e f width placed agree sure =
 faulted_isnt : (line kind : ℕ) → Faulted line kind ≡ Going → ⊥
 faulted_isnt line kind e = absurd (cc)
 
-with_items_same : (may : Doubt) (line : ℕ) (r q : Result (List ℤ) EvalStop) (next : List ℤ → Action) (a b : BodyRun) → r ≡ q → Same may may a b →
-    ((xs : List ℤ) → Same may may (next xs a) (next xs b)) → Same may may (with_items line r next a) (with_items line q next b)
-with_items_same may line r q next a b is s h = subst (λ z. Same may may (with_items line r next a) (with_items line z next b)) is (from r)
+with_items_same : (may : Doubt) (line : ℕ) (r q : Result (List ℤ) EvalStop) (next : List ℤ → Action) (a b : BodyRun) → r ≡ q → StandAlike may may a b →
+    ((xs : List ℤ) → StandAlike may may (next xs a) (next xs b)) → StandAlike may may (with_items line r next a) (with_items line q next b)
+with_items_same may line r q next a b is s h = subst (λ z. StandAlike may may (with_items line r next a) (with_items line z next b)) is (from r)
   where
-    from : (z : Result (List ℤ) EvalStop) → Same may may (with_items line z next a) (with_items line z next b)
+    from : (z : Result (List ℤ) EvalStop) → StandAlike may may (with_items line z next a) (with_items line z next b)
     from (Ok xs) = h xs
     from (Err stop) = ends_same may may may a b (Faulted line (fault_number stop)) s.doubt (faulted_isnt line (fault_number stop)) s
 
@@ -141,7 +142,7 @@ named_stays : (may : Doubt) (name : List ℕ) (v : Value) (action : Action) → 
 named_stays may name v action stays = record {
   same = λ a b s on.
       let names : Agree may (insert a.names name v) (insert b.names name v) = insert_agrees may a.names b.names name v s.names in
-      let t : Same may may (naming name v a) (naming name v b) = record { doubt = s.doubt; emitted = s.emitted; flow = s.flow; names = names; surely = λ _. names } in
+      let t : StandAlike may may (naming name v a) (naming name v b) = record { doubt = s.doubt; emitted = s.emitted; flow = s.flow; names = names; surely = λ _. names } in
       stays.same (naming name v a) (naming name v b) t on;
 }
 
@@ -237,7 +238,7 @@ module _ (program : ProgramTree) (legal : IsLegal program) where
       let a : BodyRun = first_run (names_for program e item place) in
       let b : BodyRun = first_run (names_for program f item place) in
       let names : Agree may (names_for program e item place) (names_for program f item place) = names_agree e f item place agree in
-      let start : Same may may a b = record { doubt = doubt; emitted = refl; flow = refl; names = names; surely = λ _. names } in
+      let start : StandAlike may may a b = record { doubt = doubt; emitted = refl; flow = refl; names = names; surely = λ _. names } in
       let unread : (n : List ℕ) → may n ≡ true → NoneRead program legal n program.head.inner =
       λ n h. heads_unread program legal n (and_parts (is_scratch program n) (is_assigned (outline_of program) n) (not (bytes_eq n place_name)) h).0 in
       let done = (runs_stay program.head.inner unread 1).same a b start refl in

@@ -35,7 +35,8 @@ Alike program store other = (n : List ℕ) → is_lasting program n ≡ true →
 -- one item's step at one place does the same from both stores: it emits the same pairs, ends in the same way, and leaves each
 -- store alike with the one that it began from
 pub record SameStep (program : ProgramTree) (store other : Bindings) (item : Value) (place : ℕ) : Type 0 where
-  pub emitted : (body_step program store item place).emitted ≡ (body_step program other item place).emitted
+  pub emitted :
+      (body_step program store item place).emitted ≡ (body_step program other item place).emitted
   pub end : (body_step program store item place).end ≡ (body_step program other item place).end
   pub left : Alike program store (body_step program store item place).store
   pub left_other : Alike program other (body_step program other item place).store
@@ -43,4 +44,5 @@ pub record SameStep (program : ProgramTree) (store other : Bindings) (item : Val
 -- a store that is reached: the one in which the loop begins, or what the step of some item at some place leaves of one
 pub data IsReached (program : ProgramTree) : Bindings → Type 0 where
   at_start : IsReached program (start_store program)
-  one_more : {store : Bindings} → IsReached program store → (item : Value) (place : ℕ) → IsReached program (body_step program store item place).store
+  one_more : {store : Bindings} → IsReached program store → (item : Value) (place : ℕ) →
+      IsReached program (body_step program store item place).store

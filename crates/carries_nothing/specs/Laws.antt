@@ -1,24 +1,33 @@
 -- What holds of legal loops. Each is the contract of a public function.
 -- Source: this project.
-use Rattle.std.specs.Prelude.{◌≡◌, ℕ, ◌+◌, List, ◌++◌, length}
+use Rattle.std.specs.Prelude.{◌≡◌, ℕ, ◌+◌, true, not, ◌&&◌, ◌||◌, List, ◌++◌, length}
 use Rattle.loop_data.specs.declared.value.Value.{Value}
+use Rattle.loop_grammar.specs.WellFormed.{is_well_formed}
 use Rattle.loop_grammar.specs.declared.tree.ProgramTree.{ProgramTree}
 use Rattle.loop_values.specs.Bindings.{Bindings}
 use Rattle.legality_rules.specs.Offences.{IsLegal}
+use Rattle.legality_rules.specs.Rules.{is_assigned, outline_of}
 use Rattle.loop_meaning.specs.Laws.{place_of}
 use Rattle.loop_meaning.specs.Reducers.{end_of_run}
 use Rattle.loop_meaning.specs.Runs.{followed_by, loop_run}
 use Rattle.loop_meaning.specs.Steps.{body_step}
 use Rattle.loop_meaning.specs.Stops.{leftmost_from}
 use Rattle.loop_meaning.specs.Stores.{start_store}
-use Rattle.carries_nothing.specs.Alike.{Alike, IsReached, IsStore, SameStep}
+use Rattle.carries_nothing.specs.Alike.{Alike, IsReached, IsStore, SameStep, is_lasting, is_scratch, is_variable}
 use Rattle.carries_nothing.specs.Parts.{CarriesNothing, SameRun, from_start}
 use Rattle.carries_nothing.specs.Unwritten.{sometimes_written}
 
 -- From two stores that are alike, the step of an item at a place does the same in a legal loop.
 abbrev pub StepsAreSame : Type 0
-StepsAreSame = (program : ProgramTree) → IsLegal program → (store other : Bindings) → IsStore program store →
-    IsStore program other → Alike program store other → (item : Value) (place : ℕ) → SameStep program store other item place
+StepsAreSame = (program : ProgramTree) → IsLegal program → (store other : Bindings) →
+    IsStore program store → IsStore program other → Alike program store other →
+    (item : Value) (place : ℕ) → SameStep program store other item place
+
+-- In a program that a text spells each outer variable lasts, and each scratch that no line assigns.
+abbrev pub SpelledNamesLast : Type 0
+SpelledNamesLast = (program : ProgramTree) → is_well_formed program ≡ true → (n : List ℕ) →
+    is_lasting program n
+    ≡ (is_variable program n || (is_scratch program n && not (is_assigned (outline_of program) n)))
 
 -- The loop begins in a store, and a step leaves a store.
 abbrev pub StartIsStore : Type 0
@@ -36,19 +45,22 @@ LegalCarriesNothing = (program : ProgramTree) → IsLegal program → CarriesNot
 abbrev pub PartsEndAsWhole : Type 0
 PartsEndAsWhole = (program : ProgramTree) → IsLegal program → (left right : List Value) (place : ℕ) →
     end_of_run program (from_start program (left ++ right) place)
-    ≡ end_of_run program (followed_by (from_start program left place) (from_start program right (place + length left)))
+    ≡ end_of_run program
+    (followed_by (from_start program left place) (from_start program right (place + length left)))
 
 -- From each store that is reached a legal loop runs as from the start.
 abbrev pub ReachedRunsAsStart : Type 0
-ReachedRunsAsStart = (program : ProgramTree) → IsLegal program → (store : Bindings) → IsReached program store →
-    (items : List Value) (place : ℕ) → SameRun program (loop_run program store items place) (from_start program items place)
+ReachedRunsAsStart = (program : ProgramTree) → IsLegal program →
+    (store : Bindings) → IsReached program store → (items : List Value) (place : ℕ) →
+    SameRun program (loop_run program store items place) (from_start program items place)
 
 -- From each store that is reached the step of an item at a place emits and ends as from the start: what it does depends on the
 -- item and the place alone.
 abbrev pub ReachedStepsAsStart : Type 0
-ReachedStepsAsStart = (program : ProgramTree) → IsLegal program → (store : Bindings) → IsReached program store →
-    (item : Value) (place : ℕ) →
-    let step = body_step program store item place in let first = body_step program (start_store program) item place in
+ReachedStepsAsStart = (program : ProgramTree) → IsLegal program →
+    (store : Bindings) → IsReached program store → (item : Value) (place : ℕ) →
+    let step = body_step program store item place in
+    let first = body_step program (start_store program) item place in
     (step.emitted ≡ first.emitted) × (step.end ≡ first.end)
 
 -- A legal loop stops at the least place whose own step, taken from the start, stops it.

@@ -1,4 +1,5 @@
 pub mod Alike
+pub mod Blocks
 pub mod Laws
 pub mod Parts
 pub mod Unwritten

@@ -1,6 +1,18 @@
 //! What holds of legal loops, for readers and for callers' proofs: each function is empty, and its contract is the law.
 
-ghost use Rattle.carries_nothing.specs.Laws.{LegalCarriesNothing, PartsEndAsWhole, ReachedRunsAsStart, ReachedStepsAsStart, SometimesWrittenCarries, SometimesWrittenIsIllegal, StartIsStore, StepsAreSame, StepsLeaveStores, StopsLeftmost};
+ghost use Rattle.carries_nothing.specs.Blocks.{BlocksKeepAlike};
+ghost use Rattle.carries_nothing.specs.Laws.{LegalCarriesNothing, PartsEndAsWhole, ReachedRunsAsStart, ReachedStepsAsStart, SometimesWrittenCarries, SometimesWrittenIsIllegal, SpelledNamesLast, StartIsStore, StepsAreSame, StepsLeaveStores, StopsLeftmost};
+
+/// From two body runs that agree but for names that may differ, a block none of whose paths reaches a read of one of these does
+/// the same. Where it goes on, the names that may still differ are those that aren't surely written.
+pub fn blocks_keep_runs_alike()
+    ensures { BlocksKeepAlike }
+{}
+
+/// In a program that a text spells a name lasts exactly where it is an outer variable, or a scratch that no line assigns.
+pub fn spelled_names_last()
+    ensures { SpelledNamesLast }
+{}
 
 /// The loop begins in a store, and a step from a store leaves one.
 pub fn steps_leave_stores()
