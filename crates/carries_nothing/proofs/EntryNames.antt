@@ -1,5 +1,6 @@
 -- What the entries of a statement tell of it: the reads on its paths, the names that it binds or assigns, and what is in scope.
-use Rattle.std.proofs.Common.{◌≡◌, ℕ, Bool, true, false, List, [], ◌∷◌, ◌++◌, map, Some, refl, ap, sym, ◌∙◌, subst, codes}
+use Rattle.std.specs.Option.{option_and_then}
+use Rattle.std.proofs.Common.{◌≡◌, ℕ, Bool, true, false, List, [], ◌∷◌, ◌++◌, map, Some, None, refl, ap, sym, ◌∙◌, subst, codes}
 use Rattle.std.specs.Prelude.{not, ◌&&◌, ◌||◌, ◌==◌, flat_map}
 use Rattle.std.specs.List.{list_any, AllByRecursion}
 use Rattle.std.specs.Str.{bytes_eq}
@@ -8,18 +9,21 @@ use Rattle.loop_data.specs.declared.statement.Statement.{Statement, fold-roll-St
 use Rattle.loop_data.specs.declared.statement.Branch.{Branch, fold-roll-Branch, roll-Branch}
 use Rattle.loop_data.specs.declared.statement.Statement.TheOpen.{Statement-F, Statement-F as s, Branch-F}
 use Rattle.loop_data.specs.declared.statement.Statement.TheFolds as folds
+use Rattle.loop_values.specs.Kinds.{kind_of}
 use Rattle.loop_values.specs.NamesIn.{names_read}
 use Rattle.tower_inputs.specs.Towers.{names_read_in_tower}
 use Rattle.legality_rules.specs.declared.scope.Sort.{Sort}
+use Rattle.legality_rules.specs.declared.scope.Sort.TheVariants.{Local}
 use Rattle.legality_rules.specs.Lines.{Branched, Entry, Form, Listed, Listing, assigned, bound, branch_listing, branches_in_turn, condition, in_turn, keep_line, let_line, one_entry, read, reduce_line, set_line, statement_listing, statement_step}
 use Rattle.legality_rules.specs.Lines as lines
 use Rattle.legality_rules.specs.Paths as paths
 use Rattle.legality_rules.specs.Paths.{Branching, Path, after, assigns, branch_paths, followed_by, is_reached, line_reads, paths_in_turn, paths_of_one, paths_step, reads_first, statement_paths}
-use Rattle.legality_rules.specs.Scopes.{Scope, is_in, sort_in}
+use Rattle.legality_rules.specs.Scopes.{Scope, found, is_in, kinds_in, sort_in, unwrapped}
 use Rattle.loop_meaning.specs.Assigned.{all_assigned, assigned_in, assigned_in_branch, assigned_in_branch_step, assigned_step}
 use Rattle.carries_nothing.specs.Blocks.{assigned_on, misses}
 use Rattle.carries_nothing.proofs.OpenPaths.{IsSome, first_joined, line_reaches, reached_after, reached_either, reached_in_turn, some_after, some_either, some_in_turn}
-use Rattle.carries_nothing.proofs.ScopeLemmas.{sort_stays}
+use Rattle.carries_nothing.proofs.SameNames.{first_false, second_false}
+use Rattle.carries_nothing.proofs.ScopeLemmas.{one_none, pattern_none, sort_none, sort_stays}
 
 -- ---- truth values
 
@@ -68,6 +72,10 @@ names_at n entry = is_in (bound entry.says) n || is_in (assigned entry.says) n
 abbrev pub KnownAt : List ℕ → Sort → Entry → Type 0
 KnownAt n sort entry = sort_in entry.scope n ≡ Some sort
 
+-- the name isn't in scope there
+abbrev pub UnknownAt : List ℕ → Entry → Type 0
+UnknownAt n entry = sort_in entry.scope n ≡ None
+
 abbrev pub entries_in : Listing → Scope → List Entry
 entries_in listing scope = let here : Listed = listing scope in here.entries
 
@@ -85,6 +93,7 @@ pub record Told (listing : Listing) (ps : List Path) (names : Names) : Type 0 wh
   pub known : (scope : Scope) (n : List ℕ) (sort : Sort) → sort_in scope n ≡ Some sort → AllByRecursion (KnownAt n sort) (entries_in listing scope)
   pub reads : (scope : Scope) (line : ℕ) (n : List ℕ) → is_reached ps line n ≡ true → list_any (reads_at line n) (entries_in listing scope) ≡ true
   pub binds : (scope : Scope) (n : List ℕ) → is_in names n ≡ true → list_any (names_at n) (entries_in listing scope) ≡ true
+  pub hides : (scope : Scope) (n : List ℕ) → sort_in scope n ≡ None → is_in names n ≡ false → (sort_in (scope_in listing scope) n ≡ None) × AllByRecursion (UnknownAt n) (entries_in listing scope)
 
 -- the same of several statements
 pub record AllTold (listings : List Listing) (ps : List Path) (names : Names) : Type 0 where
@@ -92,6 +101,7 @@ pub record AllTold (listings : List Listing) (ps : List Path) (names : Names) : 
   pub known : (scope : Scope) (n : List ℕ) (sort : Sort) → sort_in scope n ≡ Some sort → AllByRecursion (KnownAt n sort) (in_turn listings scope)
   pub reads : (scope : Scope) (line : ℕ) (n : List ℕ) → is_reached ps line n ≡ true → list_any (reads_at line n) (in_turn listings scope) ≡ true
   pub binds : (scope : Scope) (n : List ℕ) → is_in names n ≡ true → list_any (names_at n) (in_turn listings scope) ≡ true
+  pub hides : (scope : Scope) (n : List ℕ) → sort_in scope n ≡ None → is_in names n ≡ false → AllByRecursion (UnknownAt n) (in_turn listings scope)
 
 -- the same of a condition with its block, or of several, told the paths of what is done otherwise
 pub record BranchTold (listing : Branched) (branching : Branching) (names : Names) : Type 0 where
@@ -100,6 +110,7 @@ pub record BranchTold (listing : Branched) (branching : Branching) (names : Name
   pub reads : (word : List ℕ) (scope : Scope) (line : ℕ) (n : List ℕ) (others : List Path) → IsSome others → is_reached (branching others) line n ≡ true →
       (list_any (reads_at line n) (listing word scope) || is_reached others line n) ≡ true
   pub binds : (word : List ℕ) (scope : Scope) (n : List ℕ) → is_in names n ≡ true → list_any (names_at n) (listing word scope) ≡ true
+  pub hides : (word : List ℕ) (scope : Scope) (n : List ℕ) → sort_in scope n ≡ None → is_in names n ≡ false → AllByRecursion (UnknownAt n) (listing word scope)
 
 -- ---- one line
 
@@ -110,13 +121,15 @@ or_false false e = e
 one_told : (line : ℕ) (called : List ℕ) (says : Form) (binds : Scope → Scope) (ps : List Path) (names : Names) → IsSome ps →
     ((l : ℕ) (n : List ℕ) → is_reached ps l n ≡ true → (line == l && is_in (read says) n) ≡ true) →
     ((n : List ℕ) → is_in names n ≡ true → (is_in (bound says) n || is_in (assigned says) n) ≡ true) →
+    ((scope : Scope) (n : List ℕ) → is_in names n ≡ false → sort_in (binds scope) n ≡ None) →
     Told (λ scope. one_entry line called says (binds scope) scope) ps names
-one_told line called says binds ps names some reads named = record {
+one_told line called says binds ps names some reads named hidden = record {
   some = some;
   stays = λ scope n sort is. sort_stays scope (binds scope) n sort is;
   known = λ scope n sort is. (is, tt);
   reads = λ scope l n e. or_left (line == l && is_in (read says) n) false (reads l n e);
   binds = λ scope n e. or_left (is_in (bound says) n || is_in (assigned says) n) false (named n e);
+  hides = λ scope n none apart. (sort_none scope (binds scope) n none (hidden scope n apart), (none, tt));
 }
 
 reads_alone : (line : ℕ) (names : Names) (l : ℕ) (n : List ℕ) → is_reached (paths.going (line_reads line names) ∷ []) l n ≡ true → (line == l && is_in names n) ≡ true
@@ -148,6 +161,7 @@ no_entry ps some none = record {
   known = λ scope n sort is. tt;
   reads = λ scope l n e. absurd (none l n e);
   binds = λ scope n e. e;
+  hides = λ scope n unknown apart. (unknown, tt);
 }
 
 ends_unread : (l : ℕ) (n : List ℕ) → is_reached (paths.ending [] ∷ []) l n ≡ true → ⊥
@@ -161,6 +175,7 @@ none_told = record {
   known = λ scope n sort is. tt;
   reads = λ scope l n e. e;
   binds = λ scope n e. e;
+  hides = λ scope n none apart. tt;
 }
 
 and_cases : {P : Type 0} (a m b : Bool) → (a ≡ true → P) → (b ≡ true → P) → (a || (m && b)) ≡ true → P
@@ -178,6 +193,10 @@ more_told listing listings ps qs own names here rest = record {
   binds = λ scope n e.
       any_of (bytes_eq n) own names (λ h. any_left (names_at n) (entries_in listing scope) (in_turn listings (scope_in listing scope)) (here.binds scope n h))
       (λ h. any_right (names_at n) (entries_in listing scope) (in_turn listings (scope_in listing scope)) (rest.binds (scope_in listing scope) n h)) e;
+  hides = λ scope n none apart.
+      let both = sym (list_any-append (bytes_eq n) own names) ∙ apart in
+      let first = here.hides scope n none (first_false (is_in own n) (is_in names n) both) in
+      all_joined (UnknownAt n) (entries_in listing scope) (in_turn listings (scope_in listing scope)) first.1 (rest.hides (scope_in listing scope) n first.0 (second_false (is_in own n) (is_in names n) both));
 }
 
 -- ---- conditions
@@ -190,6 +209,7 @@ one_branch line test says listings ps names is block = record {
   reads = λ word scope l n others some e. told scope l n others
       (sym (reached_after (line_reads line test) (ps ++ others) l n (some_either ps others block.some)) ∙ e);
   binds = λ word scope n e. or_right _ (list_any (names_at n) (in_turn listings scope)) (block.binds scope n e);
+  hides = λ word scope n none apart. (none, block.hides scope n none apart);
 }
   where
     told : (scope : Scope) (l : ℕ) (n : List ℕ) (others : List Path) →
@@ -211,6 +231,7 @@ no_branch = record {
   known = λ word scope n sort is. tt;
   reads = λ word scope l n others some e. e;
   binds = λ word scope n e. e;
+  hides = λ word scope n none apart. tt;
 }
 
 more_branches : (listing : Branched) (listings : List Branched) (branching : Branching) (branchings : List Branching) (own names : Names) → BranchTold listing branching own →
@@ -230,6 +251,10 @@ more_branches listing listings branching branchings own names here rest = record
   binds = λ word scope n e.
       any_of (bytes_eq n) own names (λ h. any_left (names_at n) (listing word scope) (branches_in_turn (codes "elseif") listings scope) (here.binds word scope n h))
       (λ h. any_right (names_at n) (listing word scope) (branches_in_turn (codes "elseif") listings scope) (rest.binds (codes "elseif") scope n h)) e;
+  hides = λ word scope n none apart.
+      let both = sym (list_any-append (bytes_eq n) own names) ∙ apart in
+      all_joined (UnknownAt n) (listing word scope) (branches_in_turn (codes "elseif") listings scope) (here.hides word scope n none (first_false (is_in own n) (is_in names n) both))
+      (rest.hides (codes "elseif") scope n none (second_false (is_in own n) (is_in names n) both));
 }
 
 -- conditions with their blocks, and what stands under `else`
@@ -247,6 +272,12 @@ whole_told listings branchings own others ps names here rest = record {
   binds = λ scope n e.
       any_of (bytes_eq n) own names (λ h. any_left (names_at n) (branches_in_turn (codes "if") listings scope) (in_turn others scope) (here.binds (codes "if") scope n h))
       (λ h. any_right (names_at n) (branches_in_turn (codes "if") listings scope) (in_turn others scope) (rest.binds scope n h)) e;
+  hides = λ scope n none apart.
+      let both = sym (list_any-append (bytes_eq n) own names) ∙ apart in (
+        none,
+        all_joined (UnknownAt n) (branches_in_turn (codes "if") listings scope) (in_turn others scope) (here.hides (codes "if") scope n none (first_false (is_in own n) (is_in names n) both))
+            (rest.hides scope n none (second_false (is_in own n) (is_in names n) both)),
+      );
 }
 
 -- ---- trees of statements
@@ -307,17 +338,19 @@ abbrev bared_branch : Branch-F Such SuchBranch → Branch-F Statement Branch
 bared_branch y = folds.map-Branch Such SuchBranch Statement Branch bare bare_branch y
 
 layer_told : (y : Statement-F Such SuchBranch) → Told (ListingOf (bared y)) (PathsOf (bared y)) (NamesOf (bared y))
-layer_told (s.Let line ns x) = one_told line _ (let_line ns x) _ (paths.going (line_reads line (names_read x)) ∷ []) ns tt (reads_alone line (names_read x)) (λ n e. or_left (is_in ns n) false e)
+layer_told (s.Let line ns x) =
+    one_told line _ (let_line ns x) _ (paths.going (line_reads line (names_read x)) ∷ []) ns tt (reads_alone line (names_read x)) (λ n e. or_left (is_in ns n) false e)
+    (λ scope n apart. pattern_none Local ns (found (kind_of x (kinds_in scope))) n apart)
 layer_told (s.Set line m x) =
-    one_told line _ (set_line m x) _ (paths.going (line_reads line (names_read x) ++ assigns m ∷ []) ∷ []) (m ∷ []) tt (reads_before_set line (names_read x) m) (λ n e. e)
+    one_told line _ (set_line m x) (λ scope. []) (paths.going (line_reads line (names_read x) ++ assigns m ∷ []) ∷ []) (m ∷ []) tt (reads_before_set line (names_read x) m) (λ n e. e) (λ scope n apart. refl)
 layer_told (s.If line branches else_line other end_line) =
     whole_told (map branch_listing (map bare_branch branches)) (map branch_paths (map bare_branch branches)) _ (map statement_listing (map bare other)) (paths_in_turn (map statement_paths (map bare other))) _
     (branches_told branches) (block_told other)
 layer_told (s.Keep line m x) =
     one_told line _ (keep_line m x) _ (paths.going (line_reads line (names_read x)) ∷ paths.ending (line_reads line (names_read x)) ∷ []) (m ∷ []) tt (reads_twice line (names_read x))
-    (λ n e. or_left (is_in (m ∷ []) n) false e)
+    (λ n e. or_left (is_in (m ∷ []) n) false e) (λ scope n apart. one_none Local m (option_and_then unwrapped (found (kind_of x (kinds_in scope)))) n apart)
 layer_told (s.Reduce line m tower start) =
-    one_told line _ (reduce_line m tower start) _ (paths.going (line_reads line (names_read_in_tower tower)) ∷ []) [] tt (reads_alone line (names_read_in_tower tower)) (λ n e. absurd (cc))
+    one_told line _ (reduce_line m tower start) (λ scope. []) (paths.going (line_reads line (names_read_in_tower tower)) ∷ []) [] tt (reads_alone line (names_read_in_tower tower)) (λ n e. absurd (cc)) (λ scope n apart. refl)
 layer_told (s.Continue line) = no_entry (paths.ending [] ∷ []) tt ends_unread
 layer_told (s.Break line) = no_entry (paths.ending [] ∷ []) tt ends_unread
 

@@ -16,7 +16,7 @@ use Rattle.legality_rules.specs.Scopes.{is_in}
 use Rattle.loop_meaning.specs.Steps.{body_step, first_run, inner_runs, names_for}
 use Rattle.loop_meaning.specs.Stores.{names_of, start_store, stored_names, variables, with_literals}
 use Rattle.loop_meaning.proofs.StayLemmas.{others_stay}
-use Rattle.carries_nothing.specs.Alike.{Alike, IsStore, SameStep, is_lasting, is_scratch, is_variable}
+use Rattle.carries_nothing.specs.Alike.{Alike, IsStore, SameStep, is_lasting, is_named, is_scratch, is_variable}
 use Rattle.carries_nothing.proofs.LegalLemmas.{lasting_untouched}
 use Rattle.carries_nothing.specs.Blocks.{Agree}
 use Rattle.carries_nothing.proofs.SameNames.{first_false, get_inserted, second_false}
@@ -50,27 +50,28 @@ step_alike program legal store item place n lasts = sym (others_stay program sto
 -- ---- what stores that are alike agree on
 
 -- not hidden: not a name of the store, or one that lasts
-told : (program : ProgramTree) (n : List ℕ) (v s a p : Bool) → is_variable program n ≡ v → is_scratch program n ≡ s → is_assigned (outline_of program) n ≡ a → bytes_eq n place_name ≡ p →
-    (((s && a) && not p) || p) ≡ false → {P : Type 0} → (is_in (stored_names program) n ≡ false → P) → (is_lasting program n ≡ true → P) → P
-told program n v s a true vs ss us ps e other lasts = absurd (hides (s && a) e)
+told : (program : ProgramTree) (n : List ℕ) (k v s a p : Bool) → is_variable program n ≡ v → is_scratch program n ≡ s → is_assigned (outline_of program) n ≡ a → bytes_eq n place_name ≡ p →
+    (((not k || (s && a)) && not p) || p) ≡ false → {P : Type 0} → (is_in (stored_names program) n ≡ false → P) → (is_lasting program n ≡ true → P) → P
+told program n k v s a true vs ss us ps e other lasts = absurd (hides (not k || (s && a)) e)
   where
     hides : (b : Bool) → ((b && false) || true) ≡ false → ⊥
     hides true e = absurd (cc)
     hides false e = absurd (cc)
-told program n true s a false vs ss us ps e other lasts =
+told program n false v s a false vs ss us ps e other lasts = absurd (cc)
+told program n true true s a false vs ss us ps e other lasts =
     lasts (ap (λ b. (b || (is_scratch program n && not (is_assigned (outline_of program) n))) && not (bytes_eq n place_name)) vs ∙ ap not ps)
-told program n false true true false vs ss us ps e other lasts = absurd (cc)
-told program n false true false false vs ss us ps e other lasts =
+told program n true false true true false vs ss us ps e other lasts = absurd (cc)
+told program n true false true false false vs ss us ps e other lasts =
     lasts (ap (λ b. (b || (is_scratch program n && not (is_assigned (outline_of program) n))) && not (bytes_eq n place_name)) vs
     ∙ ap (λ b. (b && not (is_assigned (outline_of program) n)) && not (bytes_eq n place_name)) ss
     ∙ ap (λ b. not b && not (bytes_eq n place_name)) us
     ∙ ap not ps)
-told program n false false a false vs ss us ps e other lasts =
+told program n true false false a false vs ss us ps e other lasts =
     other (list_any-append (bytes_eq n) (names_of program.vars) (names_of program.scratch) ∙ ap (λ b. b || is_in (names_of program.scratch) n) vs ∙ ss)
 
 pub alike_agrees : (program : ProgramTree) (legal : IsLegal program) (e f : Bindings) → IsStore program e → IsStore program f → Alike program e f → Agree (hidden program legal) e f
 alike_agrees program legal e f left right alike n sure =
-    told program n (is_variable program n) (is_scratch program n) (is_assigned (outline_of program) n) (bytes_eq n place_name) refl refl refl refl sure
+    told program n (is_named program n) (is_variable program n) (is_scratch program n) (is_assigned (outline_of program) n) (bytes_eq n place_name) refl refl refl refl sure
     (λ isnt. left n isnt ∙ sym (right n isnt)) (λ lasts. alike n lasts)
 
 pub same_steps : (program : ProgramTree) → IsLegal program → (store other : Bindings) → IsStore program store → IsStore program other → Alike program store other → (item : Value) (place : ℕ) →

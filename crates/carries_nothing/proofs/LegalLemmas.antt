@@ -21,12 +21,12 @@ use Rattle.legality_rules.specs.Scopes.{Scope, is_in, sort_in}
 use Rattle.legality_rules.proofs.CutLemmas.{entries_of_two}
 use Rattle.legality_rules.proofs.RuleLemmas.{legal_keeps}
 use Rattle.loop_meaning.specs.Assigned.{IsNoneOf, all_assigned, assigned_by, assigned_in}
-use Rattle.loop_meaning.specs.Stores.{names_of}
-use Rattle.carries_nothing.specs.Alike.{is_lasting, is_scratch, is_variable}
+use Rattle.loop_meaning.specs.Stores.{names_of, stored_names}
+use Rattle.carries_nothing.specs.Alike.{is_lasting, is_named, is_scratch, is_variable}
 use Rattle.carries_nothing.proofs.EntryNames.{all_statements_told, names_at, reads_at}
 use Rattle.carries_nothing.proofs.SameNames.{first_false, second_false}
 use Rattle.carries_nothing.proofs.ScopeLemmas.{heads_grow, inits_grow, inner_grows, or_later, pattern_grows, vars_grow, where_so}
-use Rattle.carries_nothing.proofs.SpotLemmas.{Keeps, bound_once, flat_joined, gathered, keeps_all, left_spots, right_spots, scratch_unread, unknown_unread, unnamed, variable_stays}
+use Rattle.carries_nothing.proofs.SpotLemmas.{Keeps, bound_once, flat_joined, gathered, keeps_all, left_spots, none_unread, right_spots, scratch_unread, unknown_unread, unnamed, variable_stays}
 
 scope_of_two : (xs ys : List Listing) (scope : Scope) → scope_after (xs ++ ys) scope ≡ scope_after ys (scope_after xs scope)
 scope_of_two [] ys scope = refl
@@ -227,16 +227,58 @@ module _ (program : ProgramTree) (legal : IsLegal program) where
       heads_none : (n : List ℕ) (i : Inner) (scope : Scope) → sort_in scope n ≡ None → bytes_eq n i.name ≡ false → sort_in (scope_after (inner_listing program.head i ∷ []) scope) n ≡ None
       heads_none n i scope none off = inner_grows n program.head i scope ∙ ap (λ z. or_later z (where_so (bytes_eq n i.name) LoopVariable)) none ∙ ap (λ b. where_so b LoopVariable) off
 
-  pub heads_unread : (n : List ℕ) → is_scratch program n ≡ true → NoneRead n program.head.inner
-  heads_unread n scratch =
-      let apart = scratch_apart n scratch in
-      let variable : is_variable program n ≡ false = first_false (is_variable program n) (is_in head_names n) apart in
-      let names = second_false (is_variable program n) (is_in head_names n) apart in
-      let own : is_in program.head.names n ≡ false = first_false (is_in program.head.names n) (is_in (inner_names program.head.inner) n) (sym (list_any-append (bytes_eq n) program.head.names (inner_names program.head.inner)) ∙ names) in
-      let inner : is_in (inner_names program.head.inner) n ≡ false = second_false (is_in program.head.names n) (is_in (inner_names program.head.inner) n) (sym (list_any-append (bytes_eq n) program.head.names (inner_names program.head.inner)) ∙ names) in
+  -- a name of the head is none that the inner heads read
+  heads_unread_at : (n : List ℕ) → is_variable program n ≡ false → is_in head_names n ≡ false → NoneRead n program.head.inner
+  heads_unread_at n variable names =
+      let both = sym (list_any-append (bytes_eq n) program.head.names (inner_names program.head.inner)) ∙ names in
+      let own : is_in program.head.names n ≡ false = first_false (is_in program.head.names n) (is_in (inner_names program.head.inner) n) both in
+      let inner : is_in (inner_names program.head.inner) n ≡ false = second_false (is_in program.head.names n) (is_in (inner_names program.head.inner) n) both in
       inner_unread n program.head.inner _ (scope_after (head_listing program.head ∷ []) after_vars)
       (pattern_grows n program.head after_vars ∙ ap (λ z. or_later z (where_so (is_in program.head.names n) LoopVariable)) (sorts_after_vars n ∙ ap (λ b. where_so b Variable) variable) ∙ ap (λ b. where_so b LoopVariable) own)
       inner heads_keep.1
+
+  pub heads_unread : (n : List ℕ) → is_scratch program n ≡ true → NoneRead n program.head.inner
+  heads_unread n scratch =
+      let apart = scratch_apart n scratch in
+      heads_unread_at n (first_false (is_variable program n) (is_in head_names n) apart) (second_false (is_variable program n) (is_in head_names n) apart)
+
+  -- ---- rules 1 and 5: a name that no line names isn't read
+
+  -- what a name is that no line names
+  record Unnamed (n : List ℕ) : Type 0 where
+    pub variable : is_variable program n ≡ false
+    pub scratch : is_scratch program n ≡ false
+    pub heads : is_in head_names n ≡ false
+    pub body : is_in (all_assigned (map assigned_in program.body)) n ≡ false
+
+  unnamed_is : (n : List ℕ) → is_named program n ≡ false → Unnamed n
+  unnamed_is n e =
+      let by = first_false (is_in (assigned_by program) n) (is_in (stored_names program) n) e in
+      let stored = sym (list_any-append (bytes_eq n) (names_of program.vars) (names_of program.scratch)) ∙ second_false (is_in (assigned_by program) n) (is_in (stored_names program) n) e in
+      let body : List (List ℕ) = all_assigned (map assigned_in program.body) in
+      let rest = sym (list_any-append (bytes_eq n) head_names body) ∙ second_false (bytes_eq n place_name) (is_in (head_names ++ body) n) by in
+      record {
+        variable = first_false (is_variable program n) (is_scratch program n) stored;
+        scratch = second_false (is_variable program n) (is_scratch program n) stored;
+        heads = first_false (is_in head_names n) (is_in body n) rest;
+        body = second_false (is_in head_names n) (is_in body n) rest;
+      }
+
+  pub unnamed_unread : (n : List ℕ) → is_named program n ≡ false → (line : ℕ) → is_reached (paths_of program) line n ≡ false
+  unnamed_unread n e line =
+      let is = unnamed_is n e in
+      let none : sort_in after_inits n ≡ None =
+      sorts_in_body n
+      ∙ ap (λ b. or_later (or_later (where_so b Variable) (where_so (is_in head_names n) LoopVariable)) (where_so (is_scratch program n) Scratch)) is.variable
+      ∙ ap (λ b. or_later (where_so b LoopVariable) (where_so (is_scratch program n) Scratch)) is.heads
+      ∙ ap (λ b. where_so b Scratch) is.scratch in
+      unless (is_reached (paths_of program) line n)
+      (λ h. let told = all_statements_told program.body in
+      not_both (list_any (reads_at line n) of_body) (told.reads after_inits line n h)
+      (none_unread outline ((of_vars ++ of_heads) ++ of_inits) of_body n line body_keeps (told.hides after_inits n none is.body)))
+
+  pub unnamed_heads : (n : List ℕ) → is_named program n ≡ false → NoneRead n program.head.inner
+  unnamed_heads n e = let is = unnamed_is n e in heads_unread_at n is.variable is.heads
 
   -- ---- rules 2 and 3: a step neither binds nor assigns a name that lasts
 

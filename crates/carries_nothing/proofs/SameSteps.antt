@@ -23,13 +23,13 @@ use Rattle.legality_rules.specs.Paths.{paths_of}
 use Rattle.legality_rules.specs.Rules.{is_assigned, outline_of}
 use Rattle.legality_rules.specs.Scopes.{is_in}
 use Rattle.loop_meaning.specs.declared.steps.BodyRun.{BodyRun}
-use Rattle.loop_meaning.specs.declared.steps.Flow.{Flow}
 use Rattle.loop_meaning.specs.declared.steps.Flow.TheVariants.{Going, Faulted}
 use Rattle.loop_meaning.specs.Statements.{Action, in_turn, naming, while_going}
 use Rattle.loop_meaning.specs.Steps.{body_run, body_step, end_of, first_run, for_each, for_item, inner_runs, keeping_the_store, names_for, next_run, with_items}
 use Rattle.loop_meaning.specs.Stores.{keeping, stored_names, with_found}
-use Rattle.carries_nothing.specs.Alike.{is_scratch}
-use Rattle.carries_nothing.proofs.LegalLemmas.{NoneRead, heads_unread, never_reached}
+use Rattle.carries_nothing.specs.Alike.{SameRanges, is_named, is_scratch, is_unseen}
+use Rattle.carries_nothing.specs.Laws.{BodiesAreSame, RangesAreSame}
+use Rattle.carries_nothing.proofs.LegalLemmas.{NoneRead, heads_unread, never_reached, unnamed_heads, unnamed_unread}
 use Rattle.carries_nothing.proofs.ReadNames.{asked}
 use Rattle.carries_nothing.specs.Blocks.{Agree, Doubt, IsClear, IsDoubt, StandAlike}
 use Rattle.carries_nothing.proofs.SameBlocks.{all_statements_fit, ends_same, while_same}
@@ -148,15 +148,6 @@ named_stays may name v action stays = record {
 
 -- ---- the body
 
--- a scratch that some line assigns; in a tree that no text spells it may have the name under which each step binds its place
-abbrev pub may_differ : ProgramTree → Doubt
-may_differ program n = (is_scratch program n && is_assigned (outline_of program) n) && not (bytes_eq n place_name)
-
-and_parts : (a b c : Bool) → ((a && b) && c) ≡ true → (a ≡ true) × (b ≡ true)
-and_parts true true c e = (refl, refl)
-and_parts true false c e = absurd (cc)
-and_parts false b c e = absurd (cc)
-
 and_not : (a b : Bool) → b ≡ true → (a && not b) ≡ false
 and_not true true e = refl
 and_not true false e = absurd (cc)
@@ -164,28 +155,37 @@ and_not false b e = refl
 
 module _ (program : ProgramTree) (legal : IsLegal program) where
   abbrev may : Doubt
-  may = may_differ program
+  may = is_unseen program
 
   pub placed : may place_name ≡ false
-  placed = and_not (is_scratch program place_name && is_assigned (outline_of program) place_name) (bytes_eq place_name place_name) (same_self place_name)
+  placed = and_not (not (is_named program place_name) || (is_scratch program place_name && is_assigned (outline_of program) place_name)) (bytes_eq place_name place_name) (same_self place_name)
 
   pub doubt : IsDoubt may may
   doubt = record { less = λ n sure. sure; placed = placed }
 
-  body_clear : IsClear may (paths_of program)
-  body_clear n h line =
-      let is = and_parts (is_scratch program n) (is_assigned (outline_of program) n) (not (bytes_eq n place_name)) h in
-      never_reached program legal n is.0 is.1 line
+  -- a name that no line names, or a scratch that some line assigns
+  unseen : {P : Type 0} (n : List ℕ) → may n ≡ true → (is_named program n ≡ false → P) → (is_scratch program n ≡ true → is_assigned (outline_of program) n ≡ true → P) → P
+  unseen {P = P} n h unnamed scratch = at (is_named program n) (is_scratch program n) (is_assigned (outline_of program) n) (not (bytes_eq n place_name)) refl refl refl h
+    where
+      at : (a b c d : Bool) → is_named program n ≡ a → is_scratch program n ≡ b → is_assigned (outline_of program) n ≡ c → ((not a || (b && c)) && d) ≡ true → P
+      at false b c d x y z e = unnamed x
+      at true true true d x y z e = scratch y z
+      at true true false d x y z e = absurd (cc)
+      at true false c d x y z e = absurd (cc)
 
-  next_same : (x y : Flow) → x ≡ y → next_run x ≡ next_run y
-  next_same x y e = ap next_run e
+  body_clear : IsClear may (paths_of program)
+  body_clear n h line = unseen n h (λ x. unnamed_unread program legal n x line) (λ y z. never_reached program legal n y z line)
+
+  heads_clear : (n : List ℕ) → may n ≡ true → NoneRead program legal n program.head.inner
+  heads_clear n h = unseen n h (λ x. unnamed_heads program legal n x) (λ y z. heads_unread program legal n y)
+
+  pub body_alike : (a b : BodyRun) → StandAlike may may a b → StandAlike may may (body_run program a) (body_run program b)
+  body_alike a b s =
+      let t = (all_statements_fit program.body).same may may a b s body_clear in
+      record { doubt = doubt; emitted = t.emitted; flow = ap next_run t.flow; names = t.names; surely = λ _. t.names }
 
   body_stays : Stays may (body_run program)
-  body_stays = record {
-    same = λ a b s on.
-        let t = (all_statements_fit program.body).same may may a b s body_clear in
-        record { doubt = doubt; emitted = t.emitted; flow = ap next_run t.flow; names = t.names; surely = λ _. t.names };
-  }
+  body_stays = record { same = λ a b s on. body_alike a b s }
 
   head_sure : (inner : List Inner) (i : Inner) → ((n : List ℕ) → may n ≡ true → NoneRead program legal n (i ∷ inner)) → IsSure may (flat_map names_read (range_bounds i.range))
   head_sure inner i unread n h = (unread n h).0
@@ -239,12 +239,26 @@ module _ (program : ProgramTree) (legal : IsLegal program) where
       let b : BodyRun = first_run (names_for program f item place) in
       let names : Agree may (names_for program e item place) (names_for program f item place) = names_agree e f item place agree in
       let start : StandAlike may may a b = record { doubt = doubt; emitted = refl; flow = refl; names = names; surely = λ _. names } in
-      let unread : (n : List ℕ) → may n ≡ true → NoneRead program legal n program.head.inner =
-      λ n h. heads_unread program legal n (and_parts (is_scratch program n) (is_assigned (outline_of program) n) (not (bytes_eq n place_name)) h).0 in
-      let done = (runs_stay program.head.inner unread 1).same a b start refl in
+      let done = (runs_stay program.head.inner heads_clear 1).same a b start refl in
       record {
         emitted = done.emitted;
         end = ap end_of done.flow;
         store = keeping_agrees hidden (stored_names program) e f (inner_runs program program.head.inner 1 a).names (inner_runs program program.head.inner 1 b).names agree
             (λ n sure. done.names n (first_false (may n) (bytes_eq n place_name) sure));
       }
+
+-- ---- the laws on bodies and inner heads
+
+pub bodies_are_same : BodiesAreSame
+bodies_are_same program legal run other same =
+    let start : StandAlike (is_unseen program) (is_unseen program) run other = record { doubt = doubt program legal; emitted = same.emitted; flow = same.flow; names = same.names; surely = λ _. same.names } in
+    let done = body_alike program legal run other start in
+    record { emitted = done.emitted; flow = done.flow; names = done.names }
+
+ranges_from : (program : ProgramTree) (legal : IsLegal program) (inner : List Inner) → ((n : List ℕ) → is_unseen program n ≡ true → NoneRead program legal n inner) → SameRanges program inner
+ranges_from program legal [] unread = tt
+ranges_from program legal (i ∷ inner) unread =
+    ((λ names other width agree. items_same (is_unseen program) i.range names other width (placed program legal) agree (λ n h. (unread n h).0)), ranges_from program legal inner (λ n h. (unread n h).1))
+
+pub ranges_are_same : RangesAreSame
+ranges_are_same program legal = ranges_from program legal program.head.inner (heads_clear program legal)

@@ -50,6 +50,10 @@ sort_joined (known ∷ scope) more n =
 pub sort_stays : (scope more : Scope) (n : List ℕ) (sort : Sort) → sort_in scope n ≡ Some sort → sort_in (scope ++ more) n ≡ Some sort
 sort_stays scope more n sort is = sort_joined scope more n ∙ ap (λ z. or_later z (sort_in more n)) is
 
+-- and one that isn't in scope isn't behind names that aren't it
+pub sort_none : (scope more : Scope) (n : List ℕ) → sort_in scope n ≡ None → sort_in more n ≡ None → sort_in (scope ++ more) n ≡ None
+sort_none scope more n none others = sort_joined scope more n ∙ ap (λ z. or_later z (sort_in more n)) none ∙ others
+
 -- ---- what one line brings into scope
 
 one_sort : (b : Bool) (known : Known) (x : Option Known) (c : Bool) → sort_of x ≡ where_so c known.sort → sort_of (cond b (Some known) x) ≡ where_so (b || c) known.sort
@@ -71,6 +75,16 @@ by_one_sorts sort (m ∷ ms) (x ∷ xs) n = one_sort (bytes_eq n m) (known_as so
 lone : (b : Bool) (known : Known) → sort_of (cond b (Some known) None) ≡ where_so b known.sort
 lone true known = refl
 lone false known = refl
+
+pub pattern_none : (sort : Sort) (ns : List (List ℕ)) (kind : Option ValueKind) (n : List ℕ) → is_in ns n ≡ false → sort_in (pattern_known sort ns kind) n ≡ None
+pattern_none sort ns kind n isnt = by_one_sorts sort ns (pattern_kinds ns kind) n ∙ ap (λ b. where_so b sort) isnt
+
+pub one_none : (sort : Sort) (m : List ℕ) (kind : Option ValueKind) (n : List ℕ) → is_in (m ∷ []) n ≡ false → sort_in (known_as sort m kind ∷ []) n ≡ None
+one_none sort m kind n isnt = lone (bytes_eq n m) (known_as sort m kind) ∙ ap (λ b. where_so b sort) (alone (bytes_eq n m) isnt)
+  where
+    alone : (b : Bool) → (b || false) ≡ false → b ≡ false
+    alone true e = e
+    alone false e = refl
 
 module _ (n : List ℕ) where
   -- after these parts of a program the name is what it was before, or else this where it is one of these names

@@ -14,7 +14,7 @@ use Rattle.legality_rules.specs.Offences.{spots_after}
 use Rattle.legality_rules.specs.Paths.{is_reached}
 use Rattle.legality_rules.specs.Rules.{Outline, Spot, bound_by, carried_scratches, carried_variables, is_assigned, is_reducer, names_bound_twice, reduced_by, reducers_used, repeated, rules, unknown_names, used}
 use Rattle.legality_rules.specs.Scopes.{is_in, is_known, is_scratch, is_variable, look_up, sort_in, sort_of}
-use Rattle.carries_nothing.proofs.EntryNames.{KnownAt, names_at, reads_at}
+use Rattle.carries_nothing.proofs.EntryNames.{KnownAt, UnknownAt, names_at, reads_at}
 use Rattle.carries_nothing.proofs.SameNames.{first_false, second_false}
 
 -- ---- lists
@@ -156,6 +156,17 @@ module _ (outline : Outline) where
           or_right : (a b : Bool) → b ≡ true → (a || b) ≡ true
           or_right true b e = refl
           or_right false b e = e
+
+  pub none_unread : (before entries : List Entry) (n : List ℕ) (line : ℕ) → All before entries → AllByRecursion (UnknownAt n) entries → list_any (reads_at line n) entries ≡ false
+  none_unread before [] n line k unknown = refl
+  none_unread before (e ∷ es) n line k unknown =
+      ap (λ b. (e.line == line && b) || list_any (reads_at line n) es) (unknown_unread (record { earlier = before; here = e }) n k.0 unknown.0)
+      ∙ ap (λ b. b || list_any (reads_at line n) es) (and_none (e.line == line))
+      ∙ none_unread (before ++ e ∷ []) es n line k.1 unknown.1
+    where
+      and_none : (b : Bool) → (b && false) ≡ false
+      and_none true = refl
+      and_none false = refl
 
 -- bound by none and assigned by none
 pub unnamed : (entries : List Entry) (n : List ℕ) → list_any (λ (e : Entry). is_in (bound e.says) n) entries ≡ false → list_any (λ (e : Entry). is_in (assigned e.says) n) entries ≡ false →

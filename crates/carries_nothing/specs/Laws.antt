@@ -10,10 +10,12 @@ use Rattle.legality_rules.specs.Rules.{is_assigned, outline_of}
 use Rattle.loop_meaning.specs.Laws.{place_of}
 use Rattle.loop_meaning.specs.Reducers.{end_of_run}
 use Rattle.loop_meaning.specs.Runs.{followed_by, loop_run}
-use Rattle.loop_meaning.specs.Steps.{body_step}
+use Rattle.loop_meaning.specs.Assigned.{IsNoneOf, assigned_by}
+use Rattle.loop_meaning.specs.declared.steps.BodyRun.{BodyRun}
+use Rattle.loop_meaning.specs.Steps.{body_run, body_step}
 use Rattle.loop_meaning.specs.Stops.{leftmost_from}
 use Rattle.loop_meaning.specs.Stores.{start_store}
-use Rattle.carries_nothing.specs.Alike.{Alike, IsReached, IsStore, SameStep, is_lasting, is_scratch, is_variable}
+use Rattle.carries_nothing.specs.Alike.{Alike, IsReached, IsStore, SameBody, SameRanges, SameStep, is_lasting, is_scratch, is_variable}
 use Rattle.carries_nothing.specs.Parts.{CarriesNothing, SameRun, from_start}
 use Rattle.carries_nothing.specs.Unwritten.{sometimes_written}
 
@@ -28,6 +30,20 @@ abbrev pub SpelledNamesLast : Type 0
 SpelledNamesLast = (program : ProgramTree) → is_well_formed program ≡ true → (n : List ℕ) →
     is_lasting program n
     ≡ (is_variable program n || (is_scratch program n && not (is_assigned (outline_of program) n)))
+
+-- No step of a legal loop binds or assigns a name that lasts.
+abbrev pub LastingNamesStay : Type 0
+LastingNamesStay = (program : ProgramTree) → IsLegal program → (n : List ℕ) →
+    is_lasting program n ≡ true → IsNoneOf n (assigned_by program)
+
+-- The body of a legal loop does the same from body runs that are the same but for unseen names.
+abbrev pub BodiesAreSame : Type 0
+BodiesAreSame = (program : ProgramTree) → IsLegal program → (run other : BodyRun) →
+    SameBody program run other → SameBody program (body_run program run) (body_run program other)
+
+-- So are its inner heads.
+abbrev pub RangesAreSame : Type 0
+RangesAreSame = (program : ProgramTree) → IsLegal program → SameRanges program program.head.inner
 
 -- The loop begins in a store, and a step leaves a store.
 abbrev pub StartIsStore : Type 0

@@ -1,12 +1,20 @@
 //! What holds of legal loops, for readers and for callers' proofs: each function is empty, and its contract is the law.
 
 ghost use Rattle.carries_nothing.specs.Blocks.{BlocksKeepAlike};
-ghost use Rattle.carries_nothing.specs.Laws.{LegalCarriesNothing, PartsEndAsWhole, ReachedRunsAsStart, ReachedStepsAsStart, SometimesWrittenCarries, SometimesWrittenIsIllegal, SpelledNamesLast, StartIsStore, StepsAreSame, StepsLeaveStores, StopsLeftmost};
+ghost use Rattle.carries_nothing.specs.Laws.{BodiesAreSame, LastingNamesStay, LegalCarriesNothing, PartsEndAsWhole, RangesAreSame, ReachedRunsAsStart, ReachedStepsAsStart, SometimesWrittenCarries, SometimesWrittenIsIllegal, SpelledNamesLast, StartIsStore, StepsAreSame, StepsLeaveStores, StopsLeftmost};
 
 /// From two body runs that agree but for names that may differ, a block none of whose paths reaches a read of one of these does
 /// the same. Where it goes on, the names that may still differ are those that aren't surely written.
 pub fn blocks_keep_runs_alike()
     ensures { BlocksKeepAlike }
+{}
+
+/// The body of a legal loop does the same from names that agree but for those that it can't tell: names that no line names, and
+/// the scratches that some line assigns. So do the ranges of its inner heads. No step binds or assigns a name that lasts.
+pub fn bodies_see_nothing_carried()
+    ensures bodies { BodiesAreSame }
+    ensures ranges { RangesAreSame }
+    ensures lasting { LastingNamesStay }
 {}
 
 /// In a program that a text spells a name lasts exactly where it is an outer variable, or a scratch that no line assigns.
