@@ -16,7 +16,8 @@ use Rattle.legality_rules.specs.Scopes.{is_in}
 use Rattle.loop_meaning.specs.Steps.{body_step, first_run, inner_runs, names_for}
 use Rattle.loop_meaning.specs.Stores.{names_of, start_store, stored_names, variables, with_literals}
 use Rattle.loop_meaning.proofs.StayLemmas.{others_stay}
-use Rattle.carries_nothing.specs.Alike.{Alike, IsStore, SameStep, is_lasting, is_named, is_scratch, is_variable}
+use Rattle.carries_nothing.specs.Alike.{Alike, IsStore, SameStep, is_lasting, is_scratch, is_variable}
+use Rattle.carries_nothing.specs.Bodies.{is_named}
 use Rattle.carries_nothing.proofs.LegalLemmas.{lasting_untouched}
 use Rattle.carries_nothing.specs.Blocks.{Agree}
 use Rattle.carries_nothing.proofs.SameNames.{first_false, get_inserted, second_false}

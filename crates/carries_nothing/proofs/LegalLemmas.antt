@@ -22,7 +22,8 @@ use Rattle.legality_rules.proofs.CutLemmas.{entries_of_two}
 use Rattle.legality_rules.proofs.RuleLemmas.{legal_keeps}
 use Rattle.loop_meaning.specs.Assigned.{IsNoneOf, all_assigned, assigned_by, assigned_in}
 use Rattle.loop_meaning.specs.Stores.{names_of, stored_names}
-use Rattle.carries_nothing.specs.Alike.{is_lasting, is_named, is_scratch, is_variable}
+use Rattle.carries_nothing.specs.Alike.{is_lasting, is_scratch, is_variable}
+use Rattle.carries_nothing.specs.Bodies.{is_named}
 use Rattle.carries_nothing.proofs.EntryNames.{all_statements_told, names_at, reads_at}
 use Rattle.carries_nothing.proofs.SameNames.{first_false, second_false}
 use Rattle.carries_nothing.proofs.ScopeLemmas.{heads_grow, inits_grow, inner_grows, or_later, pattern_grows, vars_grow, where_so}

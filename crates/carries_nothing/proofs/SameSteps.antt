@@ -27,7 +27,8 @@ use Rattle.loop_meaning.specs.declared.steps.Flow.TheVariants.{Going, Faulted}
 use Rattle.loop_meaning.specs.Statements.{Action, in_turn, naming, while_going}
 use Rattle.loop_meaning.specs.Steps.{body_run, body_step, end_of, first_run, for_each, for_item, inner_runs, keeping_the_store, names_for, next_run, with_items}
 use Rattle.loop_meaning.specs.Stores.{keeping, stored_names, with_found}
-use Rattle.carries_nothing.specs.Alike.{SameRanges, is_named, is_scratch, is_unseen}
+use Rattle.carries_nothing.specs.Alike.{is_scratch}
+use Rattle.carries_nothing.specs.Bodies.{SameRanges, is_named, is_unseen}
 use Rattle.carries_nothing.specs.Laws.{BodiesAreSame, RangesAreSame}
 use Rattle.carries_nothing.proofs.LegalLemmas.{NoneRead, heads_unread, never_reached, unnamed_heads, unnamed_unread}
 use Rattle.carries_nothing.proofs.ReadNames.{asked}

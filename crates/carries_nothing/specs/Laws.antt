@@ -15,7 +15,8 @@ use Rattle.loop_meaning.specs.declared.steps.BodyRun.{BodyRun}
 use Rattle.loop_meaning.specs.Steps.{body_run, body_step}
 use Rattle.loop_meaning.specs.Stops.{leftmost_from}
 use Rattle.loop_meaning.specs.Stores.{start_store}
-use Rattle.carries_nothing.specs.Alike.{Alike, IsReached, IsStore, SameBody, SameRanges, SameStep, is_lasting, is_scratch, is_variable}
+use Rattle.carries_nothing.specs.Alike.{Alike, IsReached, IsStore, SameStep, is_lasting, is_scratch, is_variable}
+use Rattle.carries_nothing.specs.Bodies.{SameBody, SameRanges}
 use Rattle.carries_nothing.specs.Parts.{CarriesNothing, SameRun, from_start}
 use Rattle.carries_nothing.specs.Unwritten.{sometimes_written}
 
