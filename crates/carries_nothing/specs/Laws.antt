@@ -1,10 +1,11 @@
 -- What holds of legal loops. Each is the contract of a public function.
 -- Source: this project.
-use Rattle.std.specs.Prelude.{◌≡◌, ℕ, ◌+◌, true, not, ◌&&◌, ◌||◌, List, ◌++◌, length}
+use Rattle.std.specs.Prelude.{◌≡◌, ℕ, ◌+◌, true, false, not, ◌&&◌, ◌||◌, List, ◌++◌, length}
+use Rattle.std.specs.Str.{bytes_eq}
 use Rattle.loop_data.specs.declared.value.Value.{Value}
-use Rattle.loop_grammar.specs.WellFormed.{is_well_formed}
+use Rattle.loop_grammar.specs.WellFormed.{is_name, is_well_formed}
 use Rattle.loop_grammar.specs.declared.tree.ProgramTree.{ProgramTree}
-use Rattle.loop_values.specs.Bindings.{Bindings}
+use Rattle.loop_values.specs.Bindings.{Bindings, place_name}
 use Rattle.legality_rules.specs.Offences.{IsLegal}
 use Rattle.legality_rules.specs.Rules.{is_assigned, outline_of}
 use Rattle.loop_meaning.specs.Laws.{place_of}
@@ -16,7 +17,7 @@ use Rattle.loop_meaning.specs.Steps.{body_run, body_step}
 use Rattle.loop_meaning.specs.Stops.{leftmost_from}
 use Rattle.loop_meaning.specs.Stores.{start_store}
 use Rattle.carries_nothing.specs.Alike.{Alike, IsReached, IsStore, SameStep, is_lasting, is_scratch, is_variable}
-use Rattle.carries_nothing.specs.Bodies.{SameBody, SameRanges}
+use Rattle.carries_nothing.specs.Bodies.{SameBody, SameRanges, is_unseen}
 use Rattle.carries_nothing.specs.Parts.{CarriesNothing, SameRun, from_start}
 use Rattle.carries_nothing.specs.Unwritten.{sometimes_written}
 
@@ -31,6 +32,11 @@ abbrev pub SpelledNamesLast : Type 0
 SpelledNamesLast = (program : ProgramTree) → is_well_formed program ≡ true → (n : List ℕ) →
     is_lasting program n
     ≡ (is_variable program n || (is_scratch program n && not (is_assigned (outline_of program) n)))
+
+-- and no line names a text that is neither a name nor `place`.
+abbrev pub OthersAreUnseen : Type 0
+OthersAreUnseen = (program : ProgramTree) → is_well_formed program ≡ true → (n : List ℕ) →
+    is_name n ≡ false → bytes_eq n place_name ≡ false → is_unseen program n ≡ true
 
 -- No step of a legal loop binds or assigns a name that lasts.
 abbrev pub LastingNamesStay : Type 0

@@ -1,7 +1,7 @@
 //! What holds of legal loops, for readers and for callers' proofs: each function is empty, and its contract is the law.
 
 ghost use Rattle.carries_nothing.specs.Blocks.{BlocksKeepAlike};
-ghost use Rattle.carries_nothing.specs.Laws.{BodiesAreSame, LastingNamesStay, LegalCarriesNothing, PartsEndAsWhole, RangesAreSame, ReachedRunsAsStart, ReachedStepsAsStart, SometimesWrittenCarries, SometimesWrittenIsIllegal, SpelledNamesLast, StartIsStore, StepsAreSame, StepsLeaveStores, StopsLeftmost};
+ghost use Rattle.carries_nothing.specs.Laws.{BodiesAreSame, LastingNamesStay, LegalCarriesNothing, OthersAreUnseen, PartsEndAsWhole, RangesAreSame, ReachedRunsAsStart, ReachedStepsAsStart, SometimesWrittenCarries, SometimesWrittenIsIllegal, SpelledNamesLast, StartIsStore, StepsAreSame, StepsLeaveStores, StopsLeftmost};
 
 /// From two body runs that agree but for names that may differ, a block none of whose paths reaches a read of one of these does
 /// the same. Where it goes on, the names that may still differ are those that aren't surely written.
@@ -17,9 +17,11 @@ pub fn bodies_see_nothing_carried()
     ensures lasting { LastingNamesStay }
 {}
 
-/// In a program that a text spells a name lasts exactly where it is an outer variable, or a scratch that no line assigns.
+/// In a program that a text spells a name lasts exactly where it is an outer variable, or a scratch that no line assigns. A text
+/// that is neither a name nor `place` is unseen.
 pub fn spelled_names_last()
-    ensures { SpelledNamesLast }
+    ensures last { SpelledNamesLast }
+    ensures others { OthersAreUnseen }
 {}
 
 /// The loop begins in a store, and a step from a store leaves one.
