@@ -1,4 +1,6 @@
-pub mod Carried
+pub mod CarriedRuns
+pub mod CarriedScratch
+pub mod CarriedVariable
 pub mod Cuts
 pub mod EntryNames
 pub mod KeptStores

@@ -19,7 +19,7 @@ use Rattle.loop_meaning.specs.Stores.{start_store}
 use Rattle.carries_nothing.specs.Alike.{Alike, IsReached, IsStore, SameStep, is_lasting, is_scratch, is_variable}
 use Rattle.carries_nothing.specs.Bodies.{SameBody, SameRanges, is_unseen}
 use Rattle.carries_nothing.specs.Parts.{CarriesNothing, SameRun, from_start}
-use Rattle.carries_nothing.specs.Unwritten.{sometimes_written}
+use Rattle.carries_nothing.specs.Carriers.{running_sum, sometimes_written}
 
 -- From two stores that are alike, the step of an item at a place does the same in a legal loop.
 abbrev pub StepsAreSame : Type 0
@@ -97,3 +97,10 @@ SometimesWrittenCarries = CarriesNothing sometimes_written → ⊥
 
 abbrev pub SometimesWrittenIsIllegal : Type 0
 SometimesWrittenIsIllegal = IsLegal sometimes_written → ⊥
+
+-- So is the rule on outer variables: a loop that assigns one carries something.
+abbrev pub RunningSumCarries : Type 0
+RunningSumCarries = CarriesNothing running_sum → ⊥
+
+abbrev pub RunningSumIsIllegal : Type 0
+RunningSumIsIllegal = IsLegal running_sum → ⊥

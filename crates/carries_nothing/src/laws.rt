@@ -1,7 +1,7 @@
 //! What holds of legal loops, for readers and for callers' proofs: each function is empty, and its contract is the law.
 
 ghost use Rattle.carries_nothing.specs.Blocks.{BlocksKeepAlike};
-ghost use Rattle.carries_nothing.specs.Laws.{BodiesAreSame, LastingNamesStay, LegalCarriesNothing, OthersAreUnseen, PartsEndAsWhole, RangesAreSame, ReachedRunsAsStart, ReachedStepsAsStart, SometimesWrittenCarries, SometimesWrittenIsIllegal, SpelledNamesLast, StartIsStore, StepsAreSame, StepsLeaveStores, StopsLeftmost};
+ghost use Rattle.carries_nothing.specs.Laws.{BodiesAreSame, LastingNamesStay, LegalCarriesNothing, OthersAreUnseen, PartsEndAsWhole, RangesAreSame, ReachedRunsAsStart, ReachedStepsAsStart, RunningSumCarries, RunningSumIsIllegal, SometimesWrittenCarries, SometimesWrittenIsIllegal, SpelledNamesLast, StartIsStore, StepsAreSame, StepsLeaveStores, StopsLeftmost};
 
 /// From two body runs that agree but for names that may differ, a block none of whose paths reaches a read of one of these does
 /// the same. Where it goes on, the names that may still differ are those that aren't surely written.
@@ -61,4 +61,10 @@ pub fn leftmost_stop_decides()
 pub fn scratch_on_unwritten_path_carries()
     ensures carries { SometimesWrittenCarries }
     ensures illegal { SometimesWrittenIsIllegal }
+{}
+
+/// So is the rule on outer variables: a loop that assigns one gives another answer in two parts. It isn't legal.
+pub fn assigned_variable_carries()
+    ensures carries { RunningSumCarries }
+    ensures illegal { RunningSumIsIllegal }
 {}

@@ -1,4 +1,4 @@
-use Rattle.carries_nothing.proofs.Carried.{carries, illegal}
+use Rattle.carries_nothing.proofs.CarriedScratch.{carries, illegal}
 use Rattle.carries_nothing.proofs.laws.scratch_on_unwritten_path_carries.Goals as goal
 
 pub returns-clause-carries : goal.returns-clause-carries

@@ -1,8 +1,8 @@
 -- The loop with one path on which its scratch isn't written gives another answer in two parts.
-use Rattle.std.proofs.Common.{◌≡◌, ℕ, ◌+◌, false, List, [], ◌∷◌, ◌++◌, Some, None, Ok, Err, refl, ap, sym, ◌∙◌, rules, pos, ℤ}
+use Rattle.std.proofs.Common.{◌≡◌, ℕ, List, [], ◌∷◌, Some, None, Ok, Err, refl, ap, ◌∙◌, rules, pos}
 use Rattle.std.specs.Prelude.{codes, if◌then◌else◌}
 use Rattle.std.specs.FinMap.{empty, get, insert}
-use Rattle.loop_data.specs.ValueParts.{as_bool, as_int}
+use Rattle.loop_data.specs.ValueParts.{as_bool}
 use Rattle.loop_data.specs.declared.value.Value.{Value}
 use Rattle.loop_data.specs.declared.value.Value.TheVariants.{Int}
 use Rattle.loop_data.specs.declared.expr.Op.TheVariants.{Gt}
@@ -17,19 +17,13 @@ use Rattle.loop_values.specs.Operations.{and_then}
 use Rattle.loop_values.specs.Values.{value_of, bound, second}
 use Rattle.loop_values.proofs.Layers.{value_of-Lit, value_of-Name, value_of-Two}
 use Rattle.tower_inputs.specs.Inputs.{input_of}
-use Rattle.loop_meaning.specs.declared.runs.Run.{Run}
-use Rattle.loop_meaning.specs.declared.runs.PlainStop.TheVariants as stop
-use Rattle.loop_meaning.specs.declared.steps.BodyEnd.TheVariants as end
 use Rattle.loop_meaning.specs.declared.steps.BodyRun.{BodyRun}
-use Rattle.loop_meaning.specs.declared.steps.Emitted.{Emitted}
-use Rattle.loop_meaning.specs.declared.steps.Flow.TheVariants.{Going}
-use Rattle.loop_meaning.specs.Runs.{after_stop, followed_by, loop_run, with_step}
 use Rattle.loop_meaning.specs.Statements.{block_run, emitting, evaluating, in_turn, naming, statement_run, while_going, with_value}
-use Rattle.loop_meaning.specs.Steps.{Step, body_step, end_of, first_run, next_run}
+use Rattle.loop_meaning.specs.Steps.{body_step, end_of, first_run, next_run}
 use Rattle.loop_meaning.specs.Stores.{start_store, with_found}
 use Rattle.carries_nothing.specs.Laws.{SometimesWrittenCarries, SometimesWrittenIsIllegal}
-use Rattle.carries_nothing.specs.Parts.{from_start}
-use Rattle.carries_nothing.specs.Unwritten.{is_large, large_branch, sometimes_body, sometimes_written, sum_of_b}
+use Rattle.carries_nothing.specs.Carriers.{is_large, large_branch, sometimes_body, sometimes_written, sum_of_b}
+use Rattle.carries_nothing.proofs.CarriedRuns.{Emits, done, emits, number, second_is}
 use Rattle.carries_nothing.proofs.Cuts.{legal_carries_nothing}
 use Rattle.carries_nothing.proofs.SameNames.{get_inserted}
 
@@ -38,9 +32,6 @@ b = codes "b"
 
 abbrev x : List ℕ
 x = codes "x"
-
-abbrev number : ℕ → Value
-number n = Int (pos n)
 
 -- ---- what its lines do
 
@@ -70,12 +61,6 @@ test_is env k is =
     ∙ ap (λ o. and_then o (λ v. second Gt v (value_of (e.Lit (number 2)) env))) (value_of-Name env x ∙ ap bound is)
     ∙ ap (second Gt (number k)) (value_of-Lit env (number 2))
 
-abbrev done : Bindings → List Emitted → BodyRun
-done names emitted = record { names = names; emitted = emitted; flow = Going }
-
-abbrev emits : Value → List Emitted
-emits v = record { name = codes "s"; input = v } ∷ []
-
 -- ---- one body run
 
 if_large : (names : Bindings) → get names x ≡ Some (number 3) → statement_run (s.If 3 (large_branch ∷ []) 0 [] 5) (first_run names) ≡ done (insert names b (number 3)) []
@@ -104,11 +89,6 @@ block_small names v is has = ap (while_going (statement_run (s.Reduce 6 (codes "
 
 -- ---- one step
 
--- the step emits the value and goes on
-record Emits (v : Value) (step : Step) : Type 0 where
-  emitted : step.emitted ≡ emits v
-  end : step.end ≡ end.Next
-
 abbrev begun : Bindings → Value → ℕ → Bindings
 begun env item place = insert (insert env place_name (Int (pos place))) x item
 
@@ -133,42 +113,15 @@ step_small env v place has =
 
 -- ---- its runs
 
-run_emits : (env : Bindings) (item v : Value) (items : List Value) (place : ℕ) → Emits v (body_step sometimes_written env item place) →
-    (loop_run sometimes_written env (item ∷ items) place).emitted ≡ emits v ++ (loop_run sometimes_written (body_step sometimes_written env item place).store items (place + 1)).emitted
-run_emits env item v items place is =
-    let step : Step = body_step sometimes_written env item place in
-    let rest : Run = loop_run sometimes_written step.store items (place + 1) in
-    ap (λ how. (with_step false how step place rest).emitted) is.end ∙ ap (λ l. l ++ rest.emitted) is.emitted
-
-run_ends : (env : Bindings) (item v : Value) (place : ℕ) → Emits v (body_step sometimes_written env item place) → (loop_run sometimes_written env (item ∷ []) place).stop ≡ stop.Ran
-run_ends env item v place is =
-    let step : Step = body_step sometimes_written env item place in
-    ap (λ how. (with_step false how step place (loop_run sometimes_written step.store [] (place + 1))).stop) is.end
-
 begins : get (start_store sometimes_written) b ≡ Some (number 0)
 begins = get_inserted empty b b (number 0)
-
--- the number that was emitted second
-abbrev second_number : List Emitted → ℤ
-second_number (first ∷ second ∷ more) = as_int second.input
-second_number _ = pos 0
 
 pub carries : SometimesWrittenCarries
 carries nothing =
     let start : Bindings = start_store sometimes_written in
-    let large = step_large start 1 in
-    let whole : (from_start sometimes_written (number 3 ∷ number 1 ∷ []) 1).emitted ≡ emits (number 3) ++ emits (number 3) ++ [] =
-    run_emits start (number 3) (number 3) (number 1 ∷ []) 1 large
-    ∙ ap (λ l. emits (number 3) ++ l)
-    (run_emits (body_step sometimes_written start (number 3) 1).store (number 1) (number 3) [] 2
-    (step_small (body_step sometimes_written start (number 3) 1).store (number 3) 2 (large_left start 1))) in
-    let left : Run = from_start sometimes_written (number 3 ∷ []) 1 in
-    let right : Run = from_start sometimes_written (number 1 ∷ []) 2 in
-    let parts : (followed_by left right).emitted ≡ (emits (number 3) ++ []) ++ emits (number 0) ++ [] =
-    ap (λ how. (after_stop how left right).emitted) (run_ends start (number 3) (number 3) 1 large)
-    ∙ ap (λ l. l ++ right.emitted) (run_emits start (number 3) (number 3) [] 1 large)
-    ∙ ap (λ l. (emits (number 3) ++ []) ++ l) (run_emits start (number 1) (number 0) [] 2 (step_small start (number 0) 2 begins)) in
-    let same = ap second_number (sym whole ∙ (nothing (number 3 ∷ []) (number 1 ∷ []) 1).emitted ∙ parts) in
+    let same =
+    second_is sometimes_written (number 3) (number 1) 3 3 0 nothing (step_large start 1)
+    (step_small (body_step sometimes_written start (number 3) 1).store (number 3) 2 (large_left start 1)) (step_small start (number 0) 2 begins) in
     absurd (cc)
 
 -- so it isn't legal
