@@ -19,7 +19,7 @@ use Rattle.loop_meaning.specs.Stops.{is_stop, leftmost_from, stops}
 use Rattle.loop_meaning.specs.Stores.{start_store}
 use Rattle.loop_meaning.proofs.RunLemmas.{two_lists}
 use Rattle.carries_nothing.specs.Alike.{Alike, IsReached, IsStore, at_start, one_more}
-use Rattle.carries_nothing.specs.Laws.{LegalCarriesNothing, PartsEndAsWhole, ReachedRunsAsStart, ReachedStepsAsStart, StopsLeftmost}
+use Rattle.carries_nothing.specs.Laws.{LegalCarriesNothing, PartsEndAsWhole, ReachedRunsAsStart, ReachedStepsAsStart, RunsReachStores, StopsLeftmost}
 use Rattle.carries_nothing.specs.Parts.{CarriesNothing, SameRun, from_start}
 use Rattle.carries_nothing.proofs.KeptStores.{alike_agrees, start_is_store, step_alike, step_leaves_store}
 use Rattle.carries_nothing.specs.Blocks.{Agree}
@@ -137,6 +137,21 @@ module _ (program : ProgramTree) (legal : IsLegal program) where
       step_stops (skips_faults program) step.end step place rest
       ∙ ap (λ e. if is_stop (skips_faults program) e then Some place else place_of rest.stop) done.end
       ∙ ap (λ z. if stops program x place then Some place else z) (stops_from xs (place + 1) step.store (step_as_start store x place like))
+
+-- ---- a run leaves a store that is reached
+
+pub runs_reach_stores : RunsReachStores
+runs_reach_stores program store is [] place = is
+runs_reach_stores program store is (x ∷ xs) place =
+    let step = body_step program store x place in
+    let next : IsReached program step.store = one_more is x place in
+    ends (skips_faults program) step.end step (loop_run program step.store xs (place + 1)) next (runs_reach_stores program step.store next xs (place + 1))
+  where
+    ends : (skips : Bool) (e : BodyEnd) (step : Step) (run : Run) → IsReached program step.store → IsReached program run.store → IsReached program (with_step skips e step place run).store
+    ends skips end.Next step run here rest = rest
+    ends skips (end.Break line) step run here rest = here
+    ends true (end.Fault line kind) step run here rest = rest
+    ends false (end.Fault line kind) step run here rest = here
 
 -- ---- the laws
 

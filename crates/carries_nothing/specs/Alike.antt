@@ -34,7 +34,8 @@ Alike program store other = (n : List ℕ) → is_lasting program n ≡ true →
 
 -- one item's step at one place does the same from both stores: it emits the same pairs, ends in the same way, and leaves each
 -- store alike with the one that it began from
-pub record SameStep (program : ProgramTree) (store other : Bindings) (item : Value) (place : ℕ) : Type 0 where
+pub record SameStep (program : ProgramTree) (store other : Bindings) (item : Value)
+    (place : ℕ) : Type 0 where
   pub emitted :
       (body_step program store item place).emitted ≡ (body_step program other item place).emitted
   pub end : (body_step program store item place).end ≡ (body_step program other item place).end

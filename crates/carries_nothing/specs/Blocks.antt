@@ -69,4 +69,5 @@ left_in_doubt now paths n = now n && misses n paths
 abbrev pub BlocksKeepAlike : Type 0
 BlocksKeepAlike = (block : List Statement) (may now : Doubt) (run other : BodyRun) →
     StandAlike may now run other → IsClear now (block_paths block) →
-    StandAlike may (left_in_doubt now (block_paths block)) (block_run block run) (block_run block other)
+    let later = left_in_doubt now (block_paths block) in
+    StandAlike may later (block_run block run) (block_run block other)

@@ -33,7 +33,7 @@ SpelledNamesLast = (program : ProgramTree) → is_well_formed program ≡ true �
     is_lasting program n
     ≡ (is_variable program n || (is_scratch program n && not (is_assigned (outline_of program) n)))
 
--- and no line names a text that is neither a name nor `place`.
+-- No line of it names a text that is neither a name nor `place`.
 abbrev pub OthersAreUnseen : Type 0
 OthersAreUnseen = (program : ProgramTree) → is_well_formed program ≡ true → (n : List ℕ) →
     is_name n ≡ false → bytes_eq n place_name ≡ false → is_unseen program n ≡ true
@@ -66,10 +66,16 @@ LegalCarriesNothing = (program : ProgramTree) → IsLegal program → CarriesNot
 
 -- So it ends as both parts end, with the same inputs of each reducer.
 abbrev pub PartsEndAsWhole : Type 0
-PartsEndAsWhole = (program : ProgramTree) → IsLegal program → (left right : List Value) (place : ℕ) →
+PartsEndAsWhole = (program : ProgramTree) → IsLegal program →
+    (left right : List Value) (place : ℕ) →
     end_of_run program (from_start program (left ++ right) place)
     ≡ end_of_run program
     (followed_by (from_start program left place) (from_start program right (place + length left)))
+
+-- From a store that is reached each run, of any loop, leaves one.
+abbrev pub RunsReachStores : Type 0
+RunsReachStores = (program : ProgramTree) (store : Bindings) → IsReached program store →
+    (items : List Value) (place : ℕ) → IsReached program (loop_run program store items place).store
 
 -- From each store that is reached a legal loop runs as from the start.
 abbrev pub ReachedRunsAsStart : Type 0

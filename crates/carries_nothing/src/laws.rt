@@ -1,7 +1,7 @@
 //! What holds of legal loops, for readers and for callers' proofs: each function is empty, and its contract is the law.
 
 ghost use Rattle.carries_nothing.specs.Blocks.{BlocksKeepAlike};
-ghost use Rattle.carries_nothing.specs.Laws.{BodiesAreSame, LastingNamesStay, LegalCarriesNothing, OthersAreUnseen, PartsEndAsWhole, RangesAreSame, ReachedRunsAsStart, ReachedStepsAsStart, RunningSumCarries, RunningSumIsIllegal, SometimesWrittenCarries, SometimesWrittenIsIllegal, SpelledNamesLast, StartIsStore, StepsAreSame, StepsLeaveStores, StopsLeftmost};
+ghost use Rattle.carries_nothing.specs.Laws.{BodiesAreSame, LastingNamesStay, LegalCarriesNothing, OthersAreUnseen, PartsEndAsWhole, RangesAreSame, ReachedRunsAsStart, ReachedStepsAsStart, RunningSumCarries, RunningSumIsIllegal, RunsReachStores, SometimesWrittenCarries, SometimesWrittenIsIllegal, SpelledNamesLast, StartIsStore, StepsAreSame, StepsLeaveStores, StopsLeftmost};
 
 /// From two body runs that agree but for names that may differ, a block none of whose paths reaches a read of one of these does
 /// the same. Where it goes on, the names that may still differ are those that aren't surely written.
@@ -44,9 +44,10 @@ pub fn legal_loop_carries_nothing()
     ensures end { PartsEndAsWhole }
 {}
 
-/// From each store that is reached a legal loop runs as it does from the start, and the step of an item emits and ends as it
-/// does from the start: what it does depends on the item and its place alone.
+/// From a store that is reached each run leaves one. From each of them a legal loop runs as it does from the start, and the step
+/// of an item emits and ends as it does from the start: what it does depends on the item and its place alone.
 pub fn reached_stores_are_as_the_start()
+    ensures reached { RunsReachStores }
     ensures runs { ReachedRunsAsStart }
     ensures steps { ReachedStepsAsStart }
 {}
