@@ -64,6 +64,63 @@ static STORES: [Row; 10] = [
     ),
 ];
 
+/// Two items with one store that lives on, and then each of them as a part by itself.
+static PARTS: [Row; 9] = [
+    // a scratch that isn't written on some path: the second item sees what the first left
+    (
+        "for x in 3:-2:1\n@init b = 0\nif x > 2\nb = x\nend\n@reduce s += b\nend\n",
+        "",
+        "ran; s: 3 3",
+    ),
+    (
+        "for x in 3:3\n@init b = 0\nif x > 2\nb = x\nend\n@reduce s += b\nend\n",
+        "",
+        "ran; s: 3",
+    ),
+    (
+        "for x in 1:1\n@init b = 0\nif x > 2\nb = x\nend\n@reduce s += b\nend\n",
+        "",
+        "ran; s: 0",
+    ),
+    // an outer variable that is assigned
+    (
+        "var t = 0\nfor x in 1:2\nt = t + x\n@reduce s += t\nend\n",
+        "",
+        "ran; s: 1 3",
+    ),
+    (
+        "var t = 0\nfor x in 1:1\nt = t + x\n@reduce s += t\nend\n",
+        "",
+        "ran; s: 1",
+    ),
+    (
+        "var t = 0\nfor x in 2:2\nt = t + x\n@reduce s += t\nend\n",
+        "",
+        "ran; s: 2",
+    ),
+    // a legal loop: the parts give what the whole gives
+    (
+        "for x in 3:-2:1\n@init b = 0\nb = x * 2\n@reduce s += b\nend\n",
+        "",
+        "ran; s: 6 2",
+    ),
+    (
+        "for x in 3:3\n@init b = 0\nb = x * 2\n@reduce s += b\nend\n",
+        "",
+        "ran; s: 6",
+    ),
+    (
+        "for x in 1:1\n@init b = 0\nb = x * 2\n@reduce s += b\nend\n",
+        "",
+        "ran; s: 2",
+    ),
+];
+
+#[test]
+fn parts(rt: HostRuntime) -> Result<(), Fail> {
+    check(&rt, rt.alloc(), &PARTS)
+}
+
 #[test]
 fn stores(rt: HostRuntime) -> Result<(), Fail> {
     check(&rt, rt.alloc(), &STORES)

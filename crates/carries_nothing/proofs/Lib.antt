@@ -1,0 +1,15 @@
+pub mod CarriedRuns
+pub mod CarriedScratch
+pub mod CarriedVariable
+pub mod Cuts
+pub mod EntryNames
+pub mod KeptStores
+pub mod LegalLemmas
+pub mod OpenPaths
+pub mod ReadNames
+pub mod SameBlocks
+pub mod SameNames
+pub mod SameSteps
+pub mod ScopeLemmas
+pub mod SpelledNames
+pub mod SpotLemmas
