@@ -1,4 +1,4 @@
-//! Checks programs: a legal one is handed on as a [`LegalProgram`], any other is refused with its first offence.
+//! Checks the tree of a program against the ten rules of legal loops: it is legal, or refused with its first offence.
 //!
 //! The rules and the first offence are defined in the crate `legality_rules`. The check goes over the program twice. One pass
 //! tries all rules but that of carried scratches, line by line, and ends at the first offence; the other looks for the first

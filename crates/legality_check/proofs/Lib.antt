@@ -1,0 +1,3 @@
+mod CheckLemmas
+pub mod FormedScopes
+mod InputLaws
