@@ -1,5 +1,5 @@
 -- The check of the branches of an `if`, one branch further.
-use Rattle.std.proofs.Common.{◌≡◌, ℕ, ◌<◌, ◌+◌, Bool, false, List, [], ◌∷◌, Ok, drop, get_or, length, map, sym, ap, ◌∙◌}
+use Rattle.std.proofs.Common.{◌≡◌, ℕ, ◌<◌, ◌+◌, Bool, false, List, ◌∷◌, Ok, drop, get_or, length, map, sym, ap, ◌∙◌}
 use Rattle.std.proofs.lemmas.List.{drop_more}
 use Rattle.loop_data.specs.declared.statement.Branch.{Branch}
 use Rattle.legality_passes.specs.declared.state.State.{State}

@@ -1,5 +1,5 @@
 -- The names that the lines of a body reduce into, or assign, are those of its entries.
-use Rattle.std.proofs.Common.{◌≡◌, ℕ, Bool, List, [], ◌∷◌, ◌++◌, Option, refl, sym, ◌∙◌, ap, append_assoc, append-nil, map, codes, rules}
+use Rattle.std.proofs.Common.{◌≡◌, ℕ, List, [], ◌∷◌, ◌++◌, Option, refl, sym, ◌∙◌, ap, append_assoc, map, codes, rules}
 use Rattle.std.specs.Prelude.{not, flat_map}
 use Rattle.loop_data.specs.declared.value.Value.{Value}
 use Rattle.loop_data.specs.declared.expr.Expr.{Expr}

@@ -5,7 +5,7 @@ use Rattle.std.proofs.lemmas.Bool.{eq-eqb, lt-ltb}
 use Rattle.legality_rules.specs.declared.refusal.Offence.{Offence}
 use Rattle.legality_rules.specs.Lines.{Entry}
 use Rattle.legality_rules.specs.Rules.{Outline, Spot, Rule, rules, carried_scratches, unknown_names, names_bound_twice, carried_variables, reducers_used, reducers_with_other_towers, types_differ, starts_not_allowed, heads_not_splittable, sites_too_many}
-use Rattle.legality_rules.specs.Offences.{offence, precedes, or_earlier, first_among, offences_at, offences_after}
+use Rattle.legality_rules.specs.Offences.{offence, precedes, first_among, offences_at, offences_after}
 use Rattle.legality_rules.specs.Cuts.{earlier_of, or_else, first_named, first_broken}
 use Rattle.legality_rules.specs.Rising.{Within}
 use Rattle.legality_rules.proofs.FirstLemmas.{is_not_before}

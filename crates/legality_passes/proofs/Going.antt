@@ -1,21 +1,19 @@
 -- One check after another, and what the rules on names say of one line.
-use Rattle.std.proofs.Common.{◌≡◌, ℕ, Bool, true, false, List, [], ◌∷◌, ◌++◌, Option, Some, None, Ok, Err, refl, sym, ◌∙◌, ap, subst, append-nil, map}
-use Rattle.std.specs.Prelude.{not, ◌&&◌, if◌then◌else◌, filter, flat_map}
+use Rattle.std.proofs.Common.{◌≡◌, ℕ, Bool, true, false, List, [], ◌∷◌, ◌++◌, Option, Some, None, Ok, Err, refl, sym, ◌∙◌, ap, subst}
+use Rattle.std.specs.Prelude.{not, ◌&&◌, if◌then◌else◌, filter}
 use Rattle.std.specs.FinMap.{get}
-use Rattle.loop_values.specs.Kinds.{Kinds}
 use Rattle.loop_values.specs.NamesIn.{SameAt}
 use Rattle.legality_rules.specs.declared.refusal.Offence.{Offence}
-use Rattle.legality_rules.specs.declared.refusal.LegalRefusal.{LegalRefusal}
 use Rattle.legality_rules.specs.declared.refusal.LegalRefusal.TheVariants.{Illegal}
 use Rattle.legality_rules.specs.declared.scope.Site.{Site}
 use Rattle.legality_rules.specs.Scopes.{Scope, is_in, is_known, kinds_in}
-use Rattle.legality_rules.specs.Lines.{Entry, Form, assigned, bound, printed, read, reduced}
-use Rattle.legality_rules.specs.Rules.{Outline, Spot, Rule, unknown_names, names_bound_twice, carried_variables, reducers_used, reducers_with_other_towers, types_differ, starts_not_allowed, heads_not_splittable, sites_too_many, used, is_reducer, bound_by, reduced_by, repeated, site_at, sites_in}
+use Rattle.legality_rules.specs.Lines.{Entry, Form, printed, reduced}
+use Rattle.legality_rules.specs.Rules.{Outline, Spot, Rule, unknown_names, names_bound_twice, carried_variables, reducers_used, reducers_with_other_towers, types_differ, starts_not_allowed, heads_not_splittable, sites_too_many, used, is_reducer, bound_by, reduced_by, site_at, sites_in}
 use Rattle.legality_rules.specs.Cuts.{or_else, first_named, first_broken}
 use Rattle.legality_passes.specs.declared.state.State.{State}
-use Rattle.legality_passes.specs.Answers.{answer, illegal, leftmost, named, and_then}
+use Rattle.legality_passes.specs.Answers.{answer, leftmost, named, and_then}
 use Rattle.legality_passes.specs.LineChecks.{Checked, only_if}
-use Rattle.legality_passes.specs.Names.{names_offence, site_names, taken, unknown}
+use Rattle.legality_passes.specs.Names.{site_names, taken, unknown}
 use Rattle.legality_passes.specs.Walks.{Check}
 use Rattle.legality_passes.proofs.FirstMet.{by_others, first_met, or_else_assoc, or_none}
 use Rattle.legality_passes.proofs.Knowing.{KindMap, Kept, Knows, made}

@@ -1,6 +1,6 @@
 -- The check of the `for` line goes on exactly where its heads break no rule.
-use Rattle.std.proofs.Common.{◌≡◌, ℕ, Bool, true, false, List, [], ◌∷◌, ◌++◌, Option, Some, None, Ok, Err, refl, sym, ◌∙◌, ap, subst, append_assoc, append-nil, map}
-use Rattle.std.specs.Prelude.{◌&&◌, ◌||◌, if◌then◌else◌, codes, flat_map}
+use Rattle.std.proofs.Common.{◌≡◌, ℕ, Bool, true, false, List, [], ◌∷◌, ◌++◌, Option, Some, None, Ok, refl, sym, ◌∙◌, ap, subst, append_assoc, append-nil, map}
+use Rattle.std.specs.Prelude.{◌&&◌, ◌||◌, if◌then◌else◌, codes}
 use Rattle.std.specs.FinMap.{get}
 use Rattle.std.specs.List.{list_all}
 use Rattle.loop_data.specs.declared.value.ValueKind.{ValueKind}
@@ -15,7 +15,7 @@ use Rattle.legality_rules.specs.Rules.{Outline, bound_by, items_fit, reduced_by,
 use Rattle.legality_rules.specs.Cuts.{or_else, scope_after}
 use Rattle.legality_passes.specs.declared.state.State.{State}
 use Rattle.legality_passes.specs.Answers.{answer, illegal, leftmost, named, and_then}
-use Rattle.legality_passes.specs.HeadChecks.{are_ints, bounds_of_first, bounds_of_inner, head_checked, head_names, inner_checked, keeps_kinds, reducers_in, with_pattern}
+use Rattle.legality_passes.specs.HeadChecks.{are_ints, bounds_of_first, bounds_of_inner, head_checked, head_names, keeps_kinds, reducers_in, with_pattern}
 use Rattle.legality_passes.specs.Kinds.{is_splittable_in}
 use Rattle.legality_passes.specs.LineChecks.{Checked, only_if}
 use Rattle.legality_passes.specs.Names.{taken, unknown}

@@ -1,25 +1,20 @@
 -- The kinds of the bounds of the heads, and the state after the `for` line.
-use Rattle.std.proofs.Common.{◌≡◌, ℕ, Bool, true, false, List, [], ◌∷◌, ◌++◌, Option, Some, None, refl, sym, ◌∙◌, ap, subst, append_assoc, append-nil, map}
+use Rattle.std.proofs.Common.{◌≡◌, ℕ, Bool, true, List, [], ◌∷◌, ◌++◌, Some, refl, sym, ◌∙◌, ap, subst, append_assoc}
 use Rattle.std.specs.Prelude.{◌&&◌, filter, flat_map}
 use Rattle.std.specs.FinMap.{get}
-use Rattle.std.specs.List.{list_all}
-use Rattle.loop_data.specs.declared.value.ValueKind.{ValueKind}
 use Rattle.loop_data.specs.declared.value.ValueKind.TheVariants as kind
 use Rattle.loop_data.specs.declared.expr.Expr.{Expr}
-use Rattle.loop_data.specs.declared.head.HeadLine.{HeadLine}
 use Rattle.loop_data.specs.declared.head.Inner.{Inner}
 use Rattle.loop_values.specs.Kinds.{Kinds, is_int, kind_of}
 use Rattle.loop_values.specs.NamesIn.{SameAt, names_read}
 use Rattle.loop_values.proofs.KindNames.{settled}
 use Rattle.legality_rules.specs.declared.scope.Sort.TheVariants.{LoopVariable}
-use Rattle.legality_rules.specs.declared.scope.Site.{Site}
 use Rattle.legality_rules.specs.Scopes.{Scope, is_in, kinds_in, known_as, one_by_one}
 use Rattle.legality_rules.specs.Lines.{range_bounds}
-use Rattle.legality_rules.specs.Rules.{passes, repeated}
+use Rattle.legality_rules.specs.Rules.{passes}
 use Rattle.legality_passes.specs.HeadChecks.{are_ints, reducers_in}
 use Rattle.legality_passes.specs.Names.{unknown}
-use Rattle.legality_passes.proofs.NameLemmas.{one_of_both}
-use Rattle.legality_passes.proofs.Knowing.{Covers, KindMap, Knows, knows_front}
+use Rattle.legality_passes.proofs.Knowing.{KindMap, Knows, knows_front}
 use Rattle.legality_passes.proofs.Going.{all_known}
 use Rattle.legality_passes.proofs.HeadLemmas.{all_split, filter_joined, flat_joined, inner_names, inner_unknown, ints, left_empty, reads_in, right_empty}
 

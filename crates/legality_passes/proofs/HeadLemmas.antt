@@ -1,41 +1,31 @@
 -- The check of the `for` line finds the first offence of its heads, and keeps the state.
-use Rattle.std.proofs.Common.{◌≡◌, ℕ, Bool, true, false, List, [], ◌∷◌, ◌++◌, Option, Some, None, Result, Ok, Err, refl, sym, ◌∙◌, ap, subst, append_assoc, append-nil, map}
-use Rattle.std.specs.Prelude.{not, ◌&&◌, ◌||◌, if◌then◌else◌, codes, filter, flat_map, is_some}
-use Rattle.std.specs.FinMap.{get}
+use Rattle.std.proofs.Common.{◌≡◌, ℕ, Bool, true, false, List, [], ◌∷◌, ◌++◌, Option, Some, None, Ok, refl, sym, ◌∙◌, ap, append_assoc, append-nil, map}
+use Rattle.std.specs.Prelude.{◌&&◌, ◌||◌, if◌then◌else◌, codes, filter, flat_map}
 use Rattle.std.specs.List.{list_all, AllByRecursion}
-use Rattle.std.specs.Str.{bytes_eq}
 use Rattle.loop_data.specs.declared.value.ValueKind.{ValueKind}
 use Rattle.loop_data.specs.declared.value.ValueKind.TheVariants as kind
 use Rattle.loop_data.specs.declared.expr.Expr.{Expr, out-Expr}
 use Rattle.loop_data.specs.declared.expr.Expr.TheOpen.{Expr-F, Expr-F as ef}
 use Rattle.loop_data.specs.declared.head.HeadLine.{HeadLine}
 use Rattle.loop_data.specs.declared.head.Inner.{Inner}
-use Rattle.loop_values.specs.Kinds.{Kinds, is_int, kind_of}
-use Rattle.loop_values.specs.NamesIn.{SameAt, names_read}
-use Rattle.loop_values.proofs.KindNames.{settled}
+use Rattle.loop_values.specs.NamesIn.{names_read}
 use Rattle.legality_rules.specs.declared.refusal.Offence.{Offence}
-use Rattle.legality_rules.specs.declared.refusal.LegalRefusal.{LegalRefusal}
-use Rattle.legality_rules.specs.declared.refusal.LegalRefusal.TheVariants.{Illegal}
 use Rattle.legality_rules.specs.declared.scope.Sort.TheVariants.{LoopVariable}
-use Rattle.legality_rules.specs.declared.scope.Site.{Site}
-use Rattle.legality_rules.specs.Scopes.{Scope, is_in, is_known, is_scratch, item_kind, kinds_in, known_as, one_by_one, pattern_kinds, pattern_known, sort_in}
-use Rattle.legality_rules.specs.Lines.{Entry, Listed, axis_bounds, first_head, first_name, head_listing, in_turn, inner_head, inner_listing, range_bounds, reduced}
-use Rattle.legality_rules.specs.Rules.{Outline, Spot, bound_by, carried_scratches, has_kind, is_assigned, is_splittable, is_splittable_at as splittable_at, items_fit, passes, reduced_by, reducers_used, repeated, sites_in, unknown_names, names_bound_twice, rules, types_differ, heads_not_splittable, carried_variables, reducers_with_other_towers, starts_not_allowed, sites_too_many}
+use Rattle.legality_rules.specs.Scopes.{Scope, is_in, is_scratch, item_kind, kinds_in, known_as, one_by_one, pattern_known, sort_in}
+use Rattle.legality_rules.specs.Lines.{Entry, first_head, first_name, in_turn, inner_head, inner_listing, range_bounds, reduced}
+use Rattle.legality_rules.specs.Rules.{Outline, Spot, bound_by, carried_scratches, is_assigned, is_splittable, is_splittable_at as splittable_at, items_fit, reduced_by, reducers_used, repeated, unknown_names, names_bound_twice, rules, types_differ, heads_not_splittable, carried_variables, reducers_with_other_towers, starts_not_allowed, sites_too_many}
 use Rattle.legality_rules.specs.Paths.{is_reached}
-use Rattle.legality_rules.specs.Offences.{first_among, offences_after, offences_at, spots_after}
-use Rattle.legality_rules.specs.Cuts.{or_else, scope_after}
+use Rattle.legality_rules.specs.Offences.{spots_after}
+use Rattle.legality_rules.specs.Cuts.{or_else}
 use Rattle.legality_passes.specs.declared.state.State.{State}
-use Rattle.legality_passes.specs.Answers.{answer, illegal, leftmost, named, and_then}
-use Rattle.legality_passes.specs.HeadChecks.{are_ints, bounds_of_first, bounds_of_inner, head_checked, head_names, inner_checked, keeps_kinds, one_inner_checked, reducers_in, with_pattern}
+use Rattle.legality_passes.specs.Answers.{answer, leftmost, named, and_then}
+use Rattle.legality_passes.specs.HeadChecks.{are_ints, bounds_of_first, bounds_of_inner, head_names, inner_checked, reducers_in}
 use Rattle.legality_passes.specs.Kinds.{is_splittable_at, is_splittable_in}
-use Rattle.legality_passes.specs.LineChecks.{Checked, only_if}
-use Rattle.legality_passes.specs.Names.{taken, unknown}
+use Rattle.legality_passes.specs.Names.{unknown}
 use Rattle.legality_passes.specs.States.{with_each, with_name}
 use Rattle.legality_passes.proofs.NameLemmas.{one_of_both}
-use Rattle.legality_passes.proofs.Knowing.{KindMap, Kept, Knows, Covers, made, kept_as, knows_front, bound_each, bound_added, sites_added}
-use Rattle.legality_passes.proofs.Going.{Goes, goes_line, goes_if, goes_is, all_known, taken_is}
-use Rattle.legality_passes.proofs.LineFirst.{line_broken, line_first}
-use Rattle.legality_passes.proofs.LineLemmas.{taken_covers}
+use Rattle.legality_passes.proofs.Knowing.{bound_added}
+use Rattle.legality_passes.proofs.LineFirst.{line_broken}
 
 -- ---- lists
 

@@ -3,7 +3,7 @@ use Rattle.std.proofs.Common.{◌≡◌, ℕ, Bool, true, false, cond, List, [],
 use Rattle.std.specs.Prelude.{◌||◌, if◌then◌else◌, is_some, flat_map}
 use Rattle.std.specs.Option.{option_and_then}
 use Rattle.std.specs.Str.{bytes_eq}
-use Rattle.std.specs.FinMap.{FinMap, empty, get, insert, get-empty, get-insert}
+use Rattle.std.specs.FinMap.{FinMap, empty, get, get-empty, get-insert}
 use Rattle.std.specs.Ordering.{nat_cmp}
 use Rattle.std.specs.Cmp.Lexicographic.{slice_cmp}
 use Rattle.std.proofs.lemmas.Cmp.{nat_list_cmp_total}
@@ -13,11 +13,10 @@ use Rattle.legality_rules.specs.declared.scope.Sort.{Sort}
 use Rattle.legality_rules.specs.declared.scope.Site.{Site}
 use Rattle.legality_rules.specs.declared.scope.Known.{Known}
 use Rattle.legality_rules.specs.Scopes.{Scope, is_in, is_known, known_as, kinds_in, look_up, one_by_one}
-use Rattle.legality_rules.specs.Lines.{Entry, bound, reduced}
-use Rattle.legality_rules.specs.Rules.{bound_by, reduced_by, repeated, site_at, sites_in}
+use Rattle.legality_rules.specs.Lines.{Entry, bound}
+use Rattle.legality_rules.specs.Rules.{bound_by, repeated, site_at, sites_in}
 use Rattle.legality_passes.specs.declared.state.State.{State}
-use Rattle.legality_passes.specs.Names.{site_names}
-use Rattle.legality_passes.specs.States.{set_kind, with_each, with_name}
+use Rattle.legality_passes.specs.States.{set_kind, with_each}
 use Rattle.legality_passes.proofs.NameLemmas.{one_of_both}
 
 -- ---- the state

@@ -1,11 +1,11 @@
 -- The first offence of several entries on one line: the least rule that one of them breaks, at the leftmost name.
-use Rattle.std.proofs.Common.{◌≡◌, ℕ, ◌<◌, ◌≤◌, ◌+◌, zero, suc, Bool, true, false, List, [], ◌∷◌, ◌++◌, Option, Some, None, refl, sym, ◌∙◌, ap, subst, arith}
+use Rattle.std.proofs.Common.{◌≡◌, ℕ, ◌<◌, ◌≤◌, ◌+◌, zero, suc, Bool, true, false, List, [], ◌∷◌, ◌++◌, Option, Some, None, refl, sym, ◌∙◌, ap, arith}
 use Rattle.std.specs.Prelude.{nat_lt, ◌==◌, ◌&&◌, ◌||◌, if◌then◌else◌, flat_map}
 use Rattle.std.specs.List.{AllByRecursion}
 use Rattle.std.proofs.lemmas.Bool.{eq-eqb, lt-ltb}
 use Rattle.legality_rules.specs.declared.refusal.Offence.{Offence}
 use Rattle.legality_rules.specs.Rules.{Outline, Spot, Rule, rules}
-use Rattle.legality_rules.specs.Offences.{offence, precedes, or_earlier, first_among, offences_at}
+use Rattle.legality_rules.specs.Offences.{or_earlier, first_among, offences_at}
 use Rattle.legality_rules.specs.Cuts.{earlier_of, or_else, first_named, first_broken}
 use Rattle.legality_rules.proofs.FirstLemmas.{is_not_before}
 use Rattle.legality_rules.proofs.CutLemmas.{first_at_entry, first_joined}

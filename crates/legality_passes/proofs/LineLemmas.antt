@@ -1,34 +1,33 @@
 -- The checks of lines find the first rule that their entry breaks, and keep the state.
-use Rattle.std.proofs.Common.{◌≡◌, ℕ, Bool, true, false, List, [], ◌∷◌, ◌++◌, Option, Some, None, Result, Ok, Err, refl, sym, ◌∙◌, ap, subst, append-nil, map}
-use Rattle.std.specs.Prelude.{not, ◌&&◌, ◌||◌, if◌then◌else◌, filter, flat_map}
+use Rattle.std.proofs.Common.{◌≡◌, ℕ, Bool, true, false, List, [], ◌∷◌, ◌++◌, Option, Some, None, Result, Ok, Err, refl, sym, ◌∙◌, ap, subst, append-nil}
+use Rattle.std.specs.Prelude.{◌||◌, if◌then◌else◌, filter}
 use Rattle.std.specs.FinMap.{get}
 use Rattle.std.specs.Option.{option_and_then}
 use Rattle.loop_data.specs.declared.value.ValueKind.{ValueKind, out-ValueKind}
 use Rattle.loop_data.specs.declared.value.ValueKind.TheOpen.{ValueKind-F, ValueKind-F as kf}
 use Rattle.loop_data.specs.declared.expr.Expr.{Expr}
 use Rattle.loop_data.specs.declared.head.Binding.{Binding}
-use Rattle.loop_data.specs.declared.head.PrintLine.{PrintLine}
-use Rattle.loop_values.specs.Kinds.{Kinded, Kinds, is_bool, is_maybe, is_maybe_at, kind_of, literal_kind}
+use Rattle.loop_values.specs.Kinds.{Kinded, is_bool, is_maybe, is_maybe_at, kind_of, literal_kind}
 use Rattle.loop_values.specs.NamesIn.{SameAt, names_read}
 use Rattle.loop_values.proofs.KindNames.{settled}
 use Rattle.legality_rules.specs.declared.refusal.Offence.{Offence}
 use Rattle.legality_rules.specs.declared.refusal.LegalRefusal.{LegalRefusal}
 use Rattle.legality_rules.specs.declared.scope.Sort.{Sort}
 use Rattle.legality_rules.specs.declared.scope.Sort.TheVariants.{Local, Scratch, Variable}
-use Rattle.legality_rules.specs.Scopes.{Scope, fits_pattern, found, is_in, is_known, is_loop_variable, is_variable, kinds_in, known_as, one_by_one, pattern_known, pattern_parts, unwrapped, unwrapped_at}
-use Rattle.legality_rules.specs.Lines.{Entry, Form, bound, condition, first_name, init_line, keep_line, let_line, print_line, read, set_line, var_line}
-use Rattle.legality_rules.specs.Rules.{Outline, Spot, bound_by, carried_variables, is_of, is_reducer, names_bound_twice, passes, reduced_by, reducers_used, repeated, site_at, sites_in, unknown_names}
+use Rattle.legality_rules.specs.Scopes.{Scope, fits_pattern, found, is_in, is_loop_variable, is_variable, kinds_in, known_as, one_by_one, pattern_known, pattern_parts, unwrapped, unwrapped_at}
+use Rattle.legality_rules.specs.Lines.{Entry, Form, bound, condition, first_name, init_line, keep_line, let_line, set_line, var_line}
+use Rattle.legality_rules.specs.Rules.{Outline, Spot, bound_by, is_of, names_bound_twice, passes, reduced_by, repeated, site_at, sites_in, unknown_names}
 use Rattle.legality_rules.specs.Cuts.{or_else, first_named}
 use Rattle.legality_passes.specs.declared.state.State.{State}
 use Rattle.legality_passes.specs.Answers.{answer, illegal, leftmost, named, and_then}
-use Rattle.legality_passes.specs.Kinds.{kept_kind, kept_or, typed_pattern, unwrapped_or_none}
-use Rattle.legality_passes.specs.LineChecks.{Checked, binding_checked, condition_checked, condition_word, keep_checked, let_checked, only_if, print_checked, set_checked}
+use Rattle.legality_passes.specs.Kinds.{kept_kind, kept_or, typed_pattern}
+use Rattle.legality_passes.specs.LineChecks.{Checked, binding_checked, condition_checked, condition_word, keep_checked, let_checked, only_if, set_checked}
 use Rattle.legality_passes.specs.Names.{names_offence, of_sort, taken, unknown}
 use Rattle.legality_passes.specs.States.{set_kind, with_each, with_name}
 use Rattle.legality_passes.proofs.NameLemmas.{one_of_both}
-use Rattle.legality_passes.proofs.FirstMet.{by_others, first_met, or_none}
+use Rattle.legality_passes.proofs.FirstMet.{by_others, first_met}
 use Rattle.legality_passes.proofs.Knowing.{KindMap, Kept, Knows, Covers, made, kept_as, knows_with, bound_each, bound_added, sites_added}
-use Rattle.legality_passes.proofs.Going.{Goes, goes_line, goes_is, answer_first, by_names, by_kinds, one_met, names_are, line_known, line_new, taken_is}
+use Rattle.legality_passes.proofs.Going.{Goes, goes_line, goes_is, by_names, by_kinds, one_met, names_are, line_known, line_new, taken_is}
 
 -- ---- names that a line binds are new
 

@@ -4,7 +4,7 @@ use Rattle.std.specs.Prelude.{◌==◌, not, ◌&&◌, ◌||◌, if◌then◌els
 use Rattle.std.specs.List.{list_any}
 use Rattle.std.specs.Str.{bytes_eq}
 use Rattle.legality_rules.specs.Scopes.{is_in}
-use Rattle.legality_rules.specs.Paths.{Event, reads, assigns, Path, going, ending, after, followed_by, paths_in_turn, line_reads, reads_first, is_reached}
+use Rattle.legality_rules.specs.Paths.{Event, reads, assigns, Path, after, followed_by, line_reads, reads_first, is_reached}
 
 -- ---- truth values
 

@@ -1,5 +1,5 @@
 -- The check of `print` lines finds the first that prints no reducer.
-use Rattle.std.proofs.Common.{◌≡◌, ℕ, Bool, true, false, List, [], ◌∷◌, ◌++◌, Option, Some, None, Result, Ok, Err, refl, sym, ◌∙◌, ap, map}
+use Rattle.std.proofs.Common.{◌≡◌, ℕ, Bool, true, false, List, [], ◌∷◌, ◌++◌, Option, None, Result, refl, map}
 use Rattle.std.specs.Prelude.{codes, not, if◌then◌else◌}
 use Rattle.loop_data.specs.declared.head.PrintLine.{PrintLine}
 use Rattle.legality_rules.specs.declared.refusal.Offence.{Offence}

@@ -1,24 +1,19 @@
 -- What the checker answers of a program that some text spells is its first offence.
-use Rattle.std.proofs.Common.{◌≡◌, ℕ, ◌<◌, ◌≤◌, ◌+◌, Bool, true, false, List, [], ◌∷◌, ◌++◌, Option, Some, None, Result, Ok, Err, refl, sym, ◌∙◌, ap, subst, arith, append_assoc, append-nil, map, length}
-use Rattle.std.specs.Prelude.{◌&&◌, ◌||◌, if◌then◌else◌, not, filter, flat_map, codes, replicate}
-use Rattle.std.specs.Str.{bytes_eq}
-use Rattle.loop_data.specs.declared.statement.Statement.{Statement}
+use Rattle.std.proofs.Common.{◌≡◌, ℕ, ◌<◌, ◌≤◌, ◌+◌, Bool, true, false, List, [], Option, Some, None, Err, refl, ◌∙◌, ap, arith, map}
+use Rattle.std.specs.Prelude.{if◌then◌else◌}
 use Rattle.loop_data.specs.declared.head.Binding.{Binding}
-use Rattle.loop_data.specs.declared.head.HeadLine.{HeadLine}
 use Rattle.loop_data.specs.declared.head.PrintLine.{PrintLine}
-use Rattle.loop_grammar.specs.declared.tree.ProgramTree.{ProgramTree}
 use Rattle.loop_grammar.specs.declared.line.NumberedLine.{NumberedLine}
-use Rattle.loop_grammar.specs.Nesting.{Nests, NestsVars, NestsInits, NestsPrints, head_line}
+use Rattle.loop_grammar.specs.Nesting.{NestsVars, NestsInits, NestsPrints}
 use Rattle.legality_rules.specs.declared.refusal.Offence.{Offence}
-use Rattle.legality_rules.specs.declared.refusal.LegalRefusal.{LegalRefusal}
 use Rattle.legality_rules.specs.declared.refusal.LegalRefusal.TheVariants.{Illegal}
 use Rattle.legality_rules.specs.Scopes.{Scope}
-use Rattle.legality_rules.specs.Lines.{Entry, Listed, in_turn, var_listing, init_listing, print_listing}
+use Rattle.legality_rules.specs.Lines.{Entry, in_turn, var_listing, init_listing, print_listing}
 use Rattle.legality_rules.specs.Rising.{Rises}
 use Rattle.legality_rules.specs.Offences.{precedes}
 use Rattle.legality_rules.specs.Cuts.{earlier_of, or_else}
 use Rattle.legality_passes.specs.Answers.{answer, and_then}
-use Rattle.legality_passes.specs.Programs.{Tried, earlier, earlier_offence}
+use Rattle.legality_passes.specs.Programs.{Tried, earlier}
 use Rattle.legality_passes.specs.declared.state.State.{State}
 use Rattle.legality_rules.specs.Rules.{bound_by, sites_in}
 use Rattle.legality_passes.specs.LineChecks.{Checked}

@@ -1,8 +1,7 @@
 -- The check of an `@reduce` line finds the first rule that its entry breaks, and keeps the state.
-use Rattle.std.proofs.Common.{◌≡◌, ℕ, Bool, true, false, List, [], ◌∷◌, ◌++◌, Option, Some, None, Ok, Err, refl, sym, ◌∙◌, ap, subst, append-nil, map, length}
+use Rattle.std.proofs.Common.{◌≡◌, ℕ, Bool, true, false, List, [], ◌∷◌, ◌++◌, Option, Some, None, Ok, refl, sym, ◌∙◌, ap, subst, append-nil, map, length}
 use Rattle.std.specs.Prelude.{◌==◌, not, ◌&&◌, if◌then◌else◌, filter, is_some}
 use Rattle.std.specs.FinMap.{get}
-use Rattle.std.specs.Str.{bytes_eq}
 use Rattle.loop_data.specs.declared.value.Value.{Value}
 use Rattle.loop_data.specs.declared.tower.Kind.{Kind}
 use Rattle.loop_data.specs.declared.tower.TowerExpr.{TowerExpr}
@@ -13,14 +12,14 @@ use Rattle.legality_rules.specs.declared.scope.Site.{Site}
 use Rattle.legality_rules.specs.Scopes.{Scope, is_in, kinds_in}
 use Rattle.legality_rules.specs.Towers.{Inputs, input_kinds, takes_start, where_given}
 use Rattle.legality_rules.specs.Lines.{Entry, reduce_line}
-use Rattle.legality_rules.specs.Rules.{Outline, Spot, allowed, bound_by, differs_from_first, inputs_fit, is_none, may_start as may_start_at, most_sites, reduced_by, site_differs, sites_in, sites_of, starts_refused}
+use Rattle.legality_rules.specs.Rules.{Outline, Spot, allowed, bound_by, differs_from_first, inputs_fit, is_none, may_start as may_start_at, most_sites, reduced_by, sites_in, sites_of, starts_refused}
 use Rattle.legality_rules.specs.Offences.{offence}
 use Rattle.legality_rules.specs.Cuts.{or_else, first_named}
 use Rattle.legality_passes.specs.declared.state.State.{State}
-use Rattle.legality_passes.specs.Answers.{answer, illegal, leftmost, and_then}
+use Rattle.legality_passes.specs.Answers.{illegal, leftmost, and_then}
 use Rattle.legality_passes.specs.LineChecks.{Checked, only_if}
 use Rattle.legality_passes.specs.Names.{names_offence, unknown}
-use Rattle.legality_passes.specs.ReduceChecks.{first_of, first_site, is_other, may_start, reduce_checked, site_of}
+use Rattle.legality_passes.specs.ReduceChecks.{first_of, first_site, is_other, may_start, reduce_checked}
 use Rattle.legality_passes.specs.States.{with_site}
 use Rattle.legality_passes.proofs.FirstMet.{by_others, first_met}
 use Rattle.legality_passes.proofs.Knowing.{KindMap, Knows, made, kept_as, bound_added, sites_added}

@@ -16,7 +16,6 @@ use Rattle.loop_values.proofs.EntryLemmas.{same_self, same_text}
 use Rattle.tower_inputs.specs.Towers.{names_read_in_tower}
 use Rattle.legality_rules.specs.declared.refusal.Offence.{Offence}
 use Rattle.legality_rules.specs.declared.refusal.LegalRefusal.TheVariants.{Illegal}
-use Rattle.legality_rules.specs.declared.scope.Sort.{Sort}
 use Rattle.legality_rules.specs.declared.scope.Sort.TheVariants.{Local}
 use Rattle.legality_rules.specs.declared.scope.Known.{Known}
 use Rattle.legality_rules.specs.Scopes.{Scope, is_in, is_scratch, sort_in, sort_of, look_up, known_as, one_by_one, pattern_kinds, found, kinds_in, unwrapped}
@@ -28,8 +27,8 @@ use Rattle.legality_rules.specs.Cuts.{or_else, first_named}
 use Rattle.legality_rules.proofs.Layers.{listing-Let, listing-Set, listing-Keep, listing-Reduce, listing-Continue, listing-Break, listing-If, listing-branch, paths-Let, paths-Set, paths-Keep, paths-Reduce, paths-Continue, paths-Break, paths-If, paths-branch}
 use Rattle.legality_passes.specs.Answers.{answer, leftmost, named, and_then}
 use Rattle.legality_passes.specs.Scans.{Scan, Scanned, block_scanned, branch_scanned, branches_scanned, close, is_open, none_open, reads_scanned, statement_scanned, where_either}
-use Rattle.legality_passes.proofs.FirstMet.{Climbs, Finding, first_met, by_fourth, climbs_joined, climbs_to, met_joined, or_none}
-use Rattle.legality_passes.proofs.OpenPaths.{or_assoc, and_assoc, or_false, and_true, and_false, assigned_on, assigned_joined, first_joined, reads_assign_none, line_reaches, misses, IsSome, reached_either, missed_either, some_either, reached_after, missed_after, some_after, reached_in_turn, missed_in_turn, some_in_turn}
+use Rattle.legality_passes.proofs.FirstMet.{Climbs, first_met, by_fourth, climbs_joined, climbs_to, met_joined, or_none}
+use Rattle.legality_passes.proofs.OpenPaths.{and_assoc, or_false, and_true, and_false, assigned_on, assigned_joined, first_joined, reads_assign_none, line_reaches, misses, IsSome, reached_either, missed_either, some_either, reached_after, missed_after, some_after, reached_in_turn, missed_in_turn, some_in_turn}
 use Rattle.legality_passes.proofs.ScanLayers.{scanned-Let, scanned-Set, scanned-Keep, scanned-Reduce, scanned-Continue, scanned-Break, scanned-If, scanned-branch}
 
 -- ---- what a pass finds

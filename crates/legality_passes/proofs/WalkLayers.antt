@@ -1,5 +1,5 @@
 -- The walk over a program, one layer of a statement at a time.
-use Rattle.std.proofs.Common.{◌≡◌, ℕ, Bool, true, List, [], ◌∷◌, Option, Ok, rules, map}
+use Rattle.std.proofs.Common.{◌≡◌, ℕ, Bool, true, List, Option, Ok, rules, map}
 use Rattle.loop_data.specs.declared.value.Value.{Value}
 use Rattle.loop_data.specs.declared.expr.Expr.{Expr}
 use Rattle.loop_data.specs.declared.tower.TowerExpr.{TowerExpr}

@@ -7,12 +7,12 @@ use Rattle.loop_data.specs.declared.statement.Branch.{Branch}
 use Rattle.loop_data.specs.declared.head.Binding.{Binding}
 use Rattle.loop_grammar.specs.declared.line.NumberedLine.{NumberedLine}
 use Rattle.loop_grammar.specs.Nesting.{NestsStatement, NestsBlock, NestsParts}
-use Rattle.loop_values.specs.Kinds.{kind_of, literal_kind}
+use Rattle.loop_values.specs.Kinds.{kind_of}
 use Rattle.legality_rules.specs.declared.refusal.Offence.{Offence}
 use Rattle.legality_rules.specs.declared.refusal.LegalRefusal.{LegalRefusal}
 use Rattle.legality_rules.specs.declared.scope.Sort.TheVariants.{Local, Scratch, Variable}
 use Rattle.legality_rules.specs.Scopes.{Scope, found, kinds_in, known_as, pattern_known, unwrapped}
-use Rattle.legality_rules.specs.Lines.{Entry, Listed, Listing, bound, in_turn, branches_in_turn, condition, first_name, init_listing, keep_line, let_line, one_entry, reduce_line, set_line, statement_listing, branch_listing, var_listing}
+use Rattle.legality_rules.specs.Lines.{Entry, Listed, bound, in_turn, branches_in_turn, condition, first_name, init_listing, keep_line, let_line, one_entry, reduce_line, set_line, statement_listing, branch_listing, var_listing}
 use Rattle.legality_rules.specs.Rules.{Outline, Spot, bound_by, reduced_by, site_at, sites_in}
 use Rattle.legality_rules.specs.Cuts.{or_else, scope_after}
 use Rattle.legality_rules.proofs.Layers.{listing-Let, listing-Set, listing-Keep, listing-Reduce, listing-Continue, listing-Break, listing-If, listing-branch}

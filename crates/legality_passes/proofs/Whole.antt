@@ -1,8 +1,7 @@
 -- What the checker answers of a program that some text spells is its first offence.
-use Rattle.std.proofs.Common.{◌≡◌, ℕ, ◌<◌, ◌≤◌, ◌+◌, Bool, true, false, List, [], ◌∷◌, ◌++◌, Option, Some, None, Ok, Err, refl, sym, ◌∙◌, ap, subst, arith, append_assoc, append-nil, map, length, replicate}
-use Rattle.std.specs.Prelude.{◌&&◌, ◌||◌, if◌then◌else◌, not, filter, flat_map}
+use Rattle.std.proofs.Common.{◌≡◌, ℕ, ◌<◌, ◌≤◌, ◌+◌, Bool, true, false, List, [], ◌∷◌, ◌++◌, Option, Some, None, refl, sym, ◌∙◌, ap, subst, arith, append_assoc, append-nil, map}
+use Rattle.std.specs.Prelude.{◌&&◌, ◌||◌, if◌then◌else◌, flat_map}
 use Rattle.std.specs.FinMap.{empty}
-use Rattle.loop_data.specs.declared.statement.Statement.{Statement}
 use Rattle.loop_data.specs.declared.value.ValueKind.TheVariants as kind
 use Rattle.loop_values.specs.NamesIn.{names_read}
 use Rattle.loop_data.specs.declared.head.Binding.{Binding}
@@ -16,11 +15,11 @@ use Rattle.loop_grammar.specs.Texts.{SpellsProgram}
 use Rattle.legality_rules.specs.declared.refusal.Offence.{Offence}
 use Rattle.legality_rules.specs.declared.scope.Sort.TheVariants.{LoopVariable, Scratch, Variable}
 use Rattle.legality_rules.specs.Scopes.{Scope, is_in, is_scratch, item_kind, known_as, one_by_one, pattern_kinds, sort_in}
-use Rattle.legality_rules.specs.Lines.{Entry, Listed, Listing, assigned, entries_of, first_head, first_name, head_listing, in_turn, init_listing, inner_head, inner_listing, range_bounds, print_listing, reduced, statement_listing, var_listing}
-use Rattle.legality_rules.specs.Paths.{Path, is_reached, paths_of}
+use Rattle.legality_rules.specs.Lines.{Entry, Listed, Listing, assigned, entries_of, first_name, head_listing, in_turn, init_listing, inner_head, inner_listing, range_bounds, print_listing, statement_listing, var_listing}
+use Rattle.legality_rules.specs.Paths.{is_reached, paths_of}
 use Rattle.legality_rules.specs.Rules.{Outline, Spot, bound_by, carried_scratches, is_assigned, outline_of, reduced_by, rules, sites_in}
 use Rattle.legality_rules.specs.Rising.{Rises, Within}
-use Rattle.legality_rules.specs.Offences.{first_among, first_offence, offences_after, offences_at, precedes, spots_after}
+use Rattle.legality_rules.specs.Offences.{first_among, first_offence, offences_after, precedes, spots_after}
 use Rattle.legality_rules.specs.Cuts.{earlier_of, or_else, first_broken, scope_after}
 use Rattle.legality_rules.proofs.CutLemmas.{entries_of_two}
 use Rattle.legality_rules.proofs.FirstLemmas.{is_not_before}
@@ -29,15 +28,14 @@ use Rattle.legality_passes.specs.declared.state.State.{State}
 use Rattle.legality_passes.specs.declared.facts.Deed.TheVariants.{Assigns, Reduces}
 use Rattle.legality_passes.specs.Answers.{answer, and_then}
 use Rattle.legality_passes.specs.Deeds.{done_in}
-use Rattle.legality_passes.specs.HeadChecks.{head_checked, head_names}
+use Rattle.legality_passes.specs.HeadChecks.{head_checked}
 use Rattle.legality_passes.specs.Programs.{Tried, earlier, tried}
 use Rattle.legality_passes.specs.Scans.{Scanned, carriable, outer_names, program_scanned, block_scanned, statement_scanned, without_state}
 use Rattle.legality_passes.specs.States.{start}
 use Rattle.legality_passes.specs.Walks.{bindings_checked, block_checked, prints_checked, program_checked, statement_checked}
 use Rattle.legality_passes.proofs.NameLemmas.{one_of_both}
 use Rattle.legality_passes.proofs.FirstMet.{Climbs, by_fourth, by_others, climbs_end, climbs_from, climbs_joined, climbs_within, earlier_none, wider, first_met, first_of_climbing, fourth_apart, fourth_on_line, met_above, met_apart, met_below, met_joined, or_none, others_on_line}
-use Rattle.legality_passes.proofs.Knowing.{KindMap, Knows, made, knows_none}
-use Rattle.legality_passes.proofs.Going.{Goes}
+use Rattle.legality_passes.proofs.Knowing.{made, knows_none}
 use Rattle.legality_passes.proofs.LineFirst.{IsAfter, line_after, line_broken, line_first}
 use Rattle.legality_passes.proofs.HeadLemmas.{by_line, inner_names, ints, line_is, no_scratch_reads, on_the_line, spots_of}
 use Rattle.legality_passes.proofs.HeadGoes.{head_goes, scope_inner}

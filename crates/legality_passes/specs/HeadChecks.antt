@@ -1,6 +1,6 @@
 -- What the check of the `for` line answers, told the reducers of the program and the state before the line. Internal.
 -- Source: this project's language.
-use Rattle.std.specs.Prelude.{ℕ, Bool, ◌&&◌, List, [], ◌∷◌, ◌++◌, map, flat_map, filter, codes, Option, Some, None, Result, Ok}
+use Rattle.std.specs.Prelude.{ℕ, Bool, ◌&&◌, List, [], ◌∷◌, ◌++◌, map, flat_map, filter, codes, Option, Some, Result, Ok}
 use Rattle.std.specs.List.{list_all}
 use Rattle.std.specs.FinMap.{get}
 use Rattle.loop_data.specs.declared.value.ValueKind.{ValueKind}

@@ -1,8 +1,7 @@
 -- What the check asks of kinds, told those of the names in scope. Internal.
 -- Source: this project's language.
 use Rattle.std.specs.Prelude.{ℕ, Bool, true, false, if◌then◌else◌, List, Option, Some, None, Result, Ok, Err}
-use Rattle.loop_data.specs.declared.value.ValueKind.{ValueKind, out-ValueKind}
-use Rattle.loop_data.specs.declared.value.ValueKind.TheOpen.{ValueKind-F, ValueKind-F as k}
+use Rattle.loop_data.specs.declared.value.ValueKind.{ValueKind}
 use Rattle.loop_data.specs.declared.expr.Expr.{Expr, out-Expr}
 use Rattle.loop_data.specs.declared.expr.Expr.TheOpen.{Expr-F, Expr-F as e}
 use Rattle.legality_rules.specs.declared.refusal.LegalRefusal.{LegalRefusal}

@@ -1,8 +1,7 @@
 -- What the checks of lines answer, told the reducers of the program and the state before the line. Internal.
 -- Source: this project's language.
-use Rattle.std.specs.Prelude.{ℕ, Bool, true, false, not, ◌&&◌, if◌then◌else◌, List, [], ◌∷◌, ◌++◌, filter, codes, Option, Some, None, Result, Ok, Err}
+use Rattle.std.specs.Prelude.{ℕ, Bool, true, false, List, [], ◌∷◌, filter, codes, Some, None, Result, Ok, Err}
 use Rattle.std.specs.FinMap.{get}
-use Rattle.loop_data.specs.declared.value.ValueKind.{ValueKind}
 use Rattle.loop_data.specs.declared.expr.Expr.{Expr}
 use Rattle.loop_data.specs.declared.head.Binding.{Binding}
 use Rattle.loop_data.specs.declared.head.PrintLine.{PrintLine}

@@ -1,6 +1,6 @@
 -- What the check of an `@reduce` line answers, told the reducers of the program and the state before the line. Internal.
 -- Source: this project's language.
-use Rattle.std.specs.Prelude.{ℕ, ◌==◌, Bool, true, false, not, ◌&&◌, if◌then◌else◌, List, [], ◌∷◌, filter, length, is_some, Option, Some, None, Ok}
+use Rattle.std.specs.Prelude.{ℕ, ◌==◌, Bool, false, not, ◌&&◌, List, [], ◌∷◌, filter, length, is_some, Option, Some, None, Ok}
 use Rattle.std.specs.FinMap.{get}
 use Rattle.std.specs.Str.{bytes_eq}
 use Rattle.loop_data.specs.declared.value.Value.{Value}

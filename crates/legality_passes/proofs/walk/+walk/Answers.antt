@@ -1,5 +1,3 @@
-use Rattle.std.proofs.Common.{◌≡◌, Ok}
-use Rattle.legality_passes.specs.Walks.{branch_checked}
 use Rattle.legality_passes.proofs.BranchSteps.{next_branch}
 use Rattle.legality_passes.proofs.walk.+walk.Goals as goal
 
