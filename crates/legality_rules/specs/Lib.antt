@@ -3,6 +3,7 @@ pub mod Laws
 pub mod Lines
 pub mod Offences
 pub mod Paths
+pub mod RefusalTexts
 pub mod Rising
 pub mod Rules
 pub mod Scopes

@@ -2,7 +2,7 @@
 //!
 //! The definitions stand in specs/: `Scopes` and `Towers` say which kinds names and inputs have, `Lines` what each line binds,
 //! reads, assigns, reduces into and prints, `Paths` all paths of a body run, `Rules` the ten rules, `Offences` legal programs
-//! and the first offence. What follows from them stands in [`laws`]. Nothing checks programs yet.
+//! and the first offence. What follows from them stands in [`laws`]. The crate `legality_check` checks programs.
 #![tactic(auto)]
 
 pub mod laws;

@@ -1,0 +1,4 @@
+mod CheckLemmas
+pub mod FormedScopes
+mod InputLaws
+mod Shared

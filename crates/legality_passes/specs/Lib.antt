@@ -1,0 +1,11 @@
+pub mod Answers
+pub mod Deeds
+pub mod HeadChecks
+pub mod Kinds
+pub mod LineChecks
+pub mod Names
+pub mod Programs
+pub mod ReduceChecks
+pub mod Scans
+pub mod States
+pub mod Walks
