@@ -1,5 +1,5 @@
 -- What the answer of the passes says of the program.
-use Rattle.std.proofs.Common.{◌≡◌, ℕ, true, List, Option, Some, None, Result, Ok, Err, sym, ◌∙◌, ap}
+use Rattle.std.proofs.Common.{◌≡◌, ℕ, true, List, Option, Some, None, Result, Ok, Err, refl, sym, ◌∙◌, ap}
 use Rattle.std.specs.Prelude.{◌≢◌, ◌↔◌}
 use Rattle.loop_grammar.specs.declared.tree.ProgramTree.{ProgramTree}
 use Rattle.loop_grammar.specs.Texts.{SpellsProgram}
@@ -54,5 +54,7 @@ pub err_is_first : (p : ProgramTree) (r : Tried) (e : LegalRefusal) → is_well_
 err_is_first p r e w t is ne o =
     let found = some_of (first_offence p) e (sym is ∙ told p r w t (λ h. ne (cc))) in
     let some : first_offence p ≡ Some found.0 = found.1.0 in
-    let named : e ≡ Illegal found.0 = found.1.1 in
-    (λ same. found_is_first (offences_of p) o (cc), λ first. let here : first_offence p ≡ Some o = first_is_found (offences_of p) o first in cc)
+    let named : e ≡ Illegal found.0 = found.1.1 in (
+      λ same. let equal : found.0 ≡ o = cc in found_is_first (offences_of p) o (some ∙ ap (λ q. Some q) equal),
+      λ first. let here : first_offence p ≡ Some o = first_is_found (offences_of p) o first in let equal : found.0 ≡ o = cc in named ∙ ap (λ q. Illegal q) equal,
+    )

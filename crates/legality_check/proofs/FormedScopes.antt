@@ -11,6 +11,7 @@ use Rattle.loop_data.specs.declared.value.Value.TheVariants as value
 use Rattle.loop_data.specs.declared.value.ValueKind.{ValueKind, out-ValueKind, roll-ValueKind, the_lemmas as kind_lemmas}
 use Rattle.loop_data.specs.declared.value.ValueKind.TheVariants as kind
 use Rattle.loop_data.specs.declared.value.ValueKind.TheOpen.{ValueKind-F, ValueKind-F as k}
+use Rattle.loop_data.specs.declared.expr.Expr.{Expr}
 use Rattle.loop_data.specs.declared.head.Axis.{Axis, out-Axis, map-Axis, the_lemmas as axis_lemmas}
 use Rattle.loop_data.specs.declared.head.Axis.TheOpen.{Axis-F, Axis-F as a}
 use Rattle.loop_data.specs.declared.head.Binding.{Binding}
@@ -22,8 +23,8 @@ use Rattle.loop_data.specs.declared.statement.Branch.{Branch}
 use Rattle.loop_grammar.specs.declared.line.Line.TheVariants as l
 use Rattle.loop_grammar.specs.declared.line.NumberedLine.{NumberedLine}
 use Rattle.loop_grammar.specs.declared.tree.ProgramTree.{ProgramTree}
-use Rattle.loop_grammar.specs.Nesting.{Nests, NestsStatement, NestsBlock, NestsParts, on}
-use Rattle.loop_grammar.specs.WellFormed.{are_heads, are_lines, are_several, is_factor, is_factor as is_part, is_head, is_pattern, is_plain, is_well_formed as is_formed_tree, is_within, factor_at, plain_at}
+use Rattle.loop_grammar.specs.Nesting.{Nests, NestsStatement, NestsBlock, NestsParts, head_line, on}
+use Rattle.loop_grammar.specs.WellFormed.{are_heads, are_lines, are_several, is_factor, is_head, is_pattern, is_plain, is_well_formed as is_formed_tree, is_within, factor_at, plain_at}
 use Rattle.loop_grammar.specs.TreeLines.{tree_lines, skip_before, vars_before, heads_of}
 use Rattle.loop_values.specs.Kinds.{Kinds, Kinded, AreWellFormed, inside_maybe_at, is_plain_kind, is_tuple_length, is_well_formed, kind_of, literal_kind, plain_kind_step}
 use Rattle.loop_values.proofs.FormedLemmas.{kinds_formed}
@@ -222,15 +223,17 @@ entries_as es fs e h = subst EntriesFormed (sym e) h
 
 -- ---- statements
 
-kind_given : (x : _) (scope : Scope) → AreFormed scope → GivesFormed (found (kind_of x (kinds_in scope)))
+kind_given : (x : Expr) (scope : Scope) → AreFormed scope → GivesFormed (found (kind_of x (kinds_in scope)))
 kind_given x scope f = found_formed (kind_of x (kinds_in scope)) (λ y e. kinds_formed x (kinds_in scope) y (formed_kinds scope f) e)
 
 mutual
   statement_keeps : {r : ℕ} {x : Statement} {from rest : List NumberedLine} → NestsStatement r x from rest → Keeps (statement_listing x)
   statement_keeps (NestsStatement.let_ {n = n} {names = ns} {x = x}) scope f =
-      listed_as _ _ (listing-Let scope n ns x)
-      ((f, tt), joined scope (one_by_one Local ns (pattern_kinds ns (found (kind_of x (kinds_in scope))))) f
-      (each_formed Local ns _ (pattern_formed ns _ (kind_given x scope f))))
+      listed_as _ _ (listing-Let scope n ns x) (
+        (f, tt),
+        joined scope (one_by_one Local ns (pattern_kinds ns (found (kind_of x (kinds_in scope))))) f
+            (each_formed Local ns _ (pattern_formed ns _ (kind_given x scope f))),
+      )
   statement_keeps (NestsStatement.set {n = n} {name = m} {x = x}) scope f =
       listed_as _ _ (listing-Set scope n m x) ((f, tt), joined scope [] f tt)
   statement_keeps (NestsStatement.keep {n = n} {name = m} {x = x}) scope f =
@@ -243,11 +246,13 @@ mutual
   statement_keeps (NestsStatement.if_ {n = n} {m = m} {x = x} {block = block} {branches = branches} {else_line = el} {other = other} b p) scope f =
       let branch : Branch = record { line = n; test = x; block = block } in
       let others = parts_formed_in p scope f in
-      listed_as _ _ (listing-If scope n (branch ∷ branches) el other m)
-      (both_entries (branches_in_turn (codes "if") (map branch_listing (branch ∷ branches)) scope) (in_turn (map statement_listing other) scope)
-      (both_entries (branch_listing branch (codes "if") scope) (branches_in_turn (codes "elseif") (map branch_listing branches) scope)
-      (entries_as _ _ (listing-branch branch (codes "if") scope) (f, in_turn_formed (map statement_listing block) (block_keeps b) scope f)) others.0)
-      others.1, f)
+      listed_as _ _ (listing-If scope n (branch ∷ branches) el other m) (
+        both_entries (branches_in_turn (codes "if") (map branch_listing (branch ∷ branches)) scope) (in_turn (map statement_listing other) scope)
+            (both_entries (branch_listing branch (codes "if") scope) (branches_in_turn (codes "elseif") (map branch_listing branches) scope)
+            (entries_as _ _ (listing-branch branch (codes "if") scope) (f, in_turn_formed (map statement_listing block) (block_keeps b) scope f)) others.0)
+            others.1,
+        f,
+      )
 
   pub block_keeps : {r : ℕ} {xs : List Statement} {from rest : List NumberedLine} → NestsBlock r xs from rest → AllKeep (map statement_listing xs)
   block_keeps NestsBlock.none = tt
@@ -257,9 +262,11 @@ mutual
       EntriesFormed (branches_in_turn (codes "elseif") (map branch_listing branches) scope) × EntriesFormed (in_turn (map statement_listing other) scope)
   parts_formed_in (NestsParts.elseif {n = n} {x = x} {block = block} {branches = branches} {other = other} b p) scope f =
       let branch : Branch = record { line = n; test = x; block = block } in
-      let others = parts_formed_in p scope f in
-      (both_entries (branch_listing branch (codes "elseif") scope) (branches_in_turn (codes "elseif") (map branch_listing branches) scope)
-      (entries_as _ _ (listing-branch branch (codes "elseif") scope) (f, in_turn_formed (map statement_listing block) (block_keeps b) scope f)) others.0, others.1)
+      let others = parts_formed_in p scope f in (
+        both_entries (branch_listing branch (codes "elseif") scope) (branches_in_turn (codes "elseif") (map branch_listing branches) scope)
+            (entries_as _ _ (listing-branch branch (codes "elseif") scope) (f, in_turn_formed (map statement_listing block) (block_keeps b) scope f)) others.0,
+        others.1,
+      )
   parts_formed_in (NestsParts.else_ {other = other} b) scope f = (tt, in_turn_formed (map statement_listing other) (block_keeps b) scope f)
   parts_formed_in NestsParts.end scope f = (tt, tt)
 
@@ -298,7 +305,7 @@ plain_axis x e = ap is_plain_kind (axis_at x) ∙ plain_axis_at (out-Axis x) e
 tuple_plain : (test : Axis → Bool) → ((x : Axis) → test x ≡ true → is_plain_kind (axis_kind x) ≡ true) → (ps : List Axis) → are_several ps ≡ true → list_all test ps ≡ true →
     is_plain_kind (kind.Tuple (map axis_kind ps)) ≡ true
 tuple_plain test h ps several all =
-    let n : length (map is_plain_kind (map axis_kind ps)) ≡ length ps = length-map is_plain_kind (map axis_kind ps) ∙ length-map axis_kind ps in
+    let n : length (map is_plain_kind (map axis_kind ps)) ≡ length ps = length-map (map axis_kind ps) is_plain_kind ∙ length-map ps axis_kind in
     plain-Tuple (map axis_kind ps)
     ∙ and_from (is_tuple_length (length (map is_plain_kind (map axis_kind ps)))) (list_all (λ p. p) (map is_plain_kind (map axis_kind ps)))
     (ap is_tuple_length n ∙ several) (each ps all)
@@ -326,9 +333,11 @@ item_formed false (x ∷ []) e = gives (axis_kind x) (plain_formed _ (factor_axi
 item_formed false (x ∷ y ∷ axes) e = absurd (cc)
 
 head_keeps : (h : HeadLine) → is_head h.product h.axes ≡ true → Keeps (head_listing h)
-head_keeps h e scope f =
-    ((f, tt), joined scope (one_by_one LoopVariable h.names (pattern_kinds h.names (item_kind h.product h.axes))) f
-    (each_formed LoopVariable h.names _ (pattern_formed h.names _ (item_formed h.product h.axes e))))
+head_keeps h e scope f = (
+  (f, tt),
+  joined scope (one_by_one LoopVariable h.names (pattern_kinds h.names (item_kind h.product h.axes))) f
+      (each_formed LoopVariable h.names _ (pattern_formed h.names _ (item_formed h.product h.axes e))),
+)
 
 -- ---- the `for` line passes the test of trees
 
@@ -357,12 +366,17 @@ head_formed p e =
 -- ---- the whole program
 
 program_keeps : {r : ℕ} {p : ProgramTree} {forms : List NumberedLine} → Nests r p forms → is_head p.head.product p.head.axes ≡ true → AllKeep (listings p)
-program_keeps (Nests.program {vars = vars} {scratch = scratch} {h = h} {body = body} {prints = prints} z u v c w) e =
-    both_keep _ (map print_listing prints)
-    (both_keep _ (map statement_listing body)
-    (both_keep _ (map init_listing scratch)
-    (both_keep (map var_listing vars) _ (vars_keep vars) (head_keeps _ e, inners_keep _ _))
-    (inits_keep scratch)) (block_keeps c)) (prints_keep prints)
+program_keeps (Nests.program {n = n} {m = m} {vars = vars} {scratch = scratch} {h = h} {body = body} {prints = prints} z u v c w) e =
+    let head : HeadLine = head_line n h m in
+    let one = map var_listing vars in
+    let two = head_listing head ∷ map (inner_listing head) head.inner in
+    let three = map init_listing scratch in
+    let four = map statement_listing body in
+    let five = map print_listing prints in
+    both_keep (one ++ two ++ three ++ four) five
+    (both_keep (one ++ two ++ three) four
+    (both_keep (one ++ two) three (both_keep one two (vars_keep vars) (head_keeps head e, inners_keep head head.inner)) (inits_keep scratch)) (block_keeps c))
+    (prints_keep prints)
 
 -- on every line the kinds of the names in scope are well formed
 pub scopes_formed : {r : ℕ} {p : ProgramTree} {forms : List NumberedLine} → Nests r p forms → is_formed_tree p ≡ true → EntriesFormed (entries_of p)

@@ -7,6 +7,7 @@ use Rattle.loop_data.specs.declared.value.Value.{Value, the_lemmas as value_lemm
 use Rattle.loop_data.specs.declared.value.Value.TheVariants as value
 use Rattle.loop_data.specs.declared.value.ValueKind.{ValueKind, the_lemmas as kind_lemmas}
 use Rattle.loop_data.specs.declared.value.ValueKind.TheVariants as kind
+use Rattle.loop_data.specs.declared.expr.Expr.{Expr}
 use Rattle.loop_data.specs.declared.tower.Kind.{Kind, out-Kind, the_lemmas as tower_kind_lemmas}
 use Rattle.loop_data.specs.declared.tower.Kind.TheOpen.{Kind-F, Kind-F as k}
 use Rattle.loop_data.specs.declared.tower.Kind.TheVariants as tower_kind
@@ -78,16 +79,16 @@ no_place x e = no_place_at (out-Kind x) e
 tower_rolled : (x : TowerExpr) → roll-TowerExpr (out-TowerExpr x) ≡ x
 tower_rolled x = search (rules, tower_lemmas)
 
-kind_of-Leaf : (leaf : Kind) (x : _) → kind_of_tower (roll-TowerExpr (t.Leaf leaf x)) ≡ leaf
+kind_of-Leaf : (leaf : Kind) (x : Expr) → kind_of_tower (roll-TowerExpr (t.Leaf leaf x)) ≡ leaf
 kind_of-Leaf leaf x = search (rules, tower_lemmas)
 
-kinds_of-Leaf : (leaf : Kind) (x : _) (names : Kinds) → kinds_of_input (roll-TowerExpr (t.Leaf leaf x)) names ≡ kind_that (takes leaf) (kind_of x names)
+kinds_of-Leaf : (leaf : Kind) (x : Expr) (names : Kinds) → kinds_of_input (roll-TowerExpr (t.Leaf leaf x)) names ≡ kind_that (takes leaf) (kind_of x names)
 kinds_of-Leaf leaf x names = search (rules, tower_lemmas)
 
 never-Count : takes_start (kind_of_tower (roll-TowerExpr t.Count)) ≡ false
 never-Count = search (rules, tower_lemmas, tower_kind_lemmas)
 
-never-Grouped : (key : _) (inner : TowerExpr) → takes_start (kind_of_tower (roll-TowerExpr (t.Grouped key inner))) ≡ false
+never-Grouped : (key : Expr) (inner : TowerExpr) → takes_start (kind_of_tower (roll-TowerExpr (t.Grouped key inner))) ≡ false
 never-Grouped key inner = search (rules, tower_lemmas, tower_kind_lemmas)
 
 never-Both : (l r : TowerExpr) → takes_start (kind_of_tower (roll-TowerExpr (t.Both l r))) ≡ false

@@ -1,5 +1,7 @@
 pub mod BaseScope
+pub mod BranchSteps
 pub mod DeedLemmas
+pub mod EndedLists
 pub mod FirstMet
 pub mod Going
 pub mod HeadGoes

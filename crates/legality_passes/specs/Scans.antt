@@ -27,8 +27,8 @@ is_open (m ∷ ms) (b ∷ bs) n = if bytes_eq n m then b else is_open ms bs n
 
 -- after an assignment of the name
 abbrev pub close : List (List ℕ) → List Bool → List ℕ → List Bool
-close ms [] n = []
-close [] (b ∷ bs) n = (b && true) ∷ close [] bs n
+close [] marks n = []
+close (m ∷ ms) [] n = []
 close (m ∷ ms) (b ∷ bs) n = (b && not (bytes_eq m n)) ∷ close ms bs n
 
 -- where no path goes on
@@ -38,7 +38,7 @@ none_open marks = replicate (length marks) false
 -- where two branches meet
 abbrev pub where_either : List Bool → List Bool → List Bool
 where_either [] other = []
-where_either (x ∷ xs) [] = (x || false) ∷ where_either xs []
+where_either (x ∷ xs) [] = []
 where_either (x ∷ xs) (y ∷ ys) = (x || y) ∷ where_either xs ys
 
 -- ---- the pass

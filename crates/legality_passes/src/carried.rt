@@ -23,12 +23,9 @@ use std::alloc::Global;
 fn is_open(names: &[TextValue], marks: &[bool], name: &TextValue) -> bool
     ensures { result ≡ is_open names.now marks.now name.now }
 {
-    for (i, other) in names.iter().enumerate() {
-        if i >= marks.len() {
-            return false;
-        }
+    for (other, mark) in names.iter().zip(marks.iter()) {
         if name == other {
-            return marks[i];
+            return *mark;
         }
     }
     false
@@ -86,8 +83,8 @@ fn close(
     ensures { IfOk result (λ o. o ≡ close names.now marks.now name.now) }
 {
     let mut closed = Many::new(alloc);
-    for (i, is) in marks.iter().enumerate() {
-        closed.push(alloc, *is && !(i < names.len() && names[i] == *name))?;
+    for (other, mark) in names.iter().zip(marks.iter()) {
+        closed.push(alloc, *mark && *other != *name)?;
     }
     Ok(closed)
 }
@@ -118,8 +115,8 @@ fn where_either(alloc: Global, left: &[bool], right: &[bool]) -> Result<Many<boo
     ensures { IfOk result (λ o. o ≡ where_either left.now right.now) }
 {
     let mut met = Many::new(alloc);
-    for (i, mark) in left.iter().enumerate() {
-        met.push(alloc, *mark || (i < right.len() && right[i]))?;
+    for (mark, other) in left.iter().zip(right.iter()) {
+        met.push(alloc, *mark || *other)?;
     }
     Ok(met)
 }

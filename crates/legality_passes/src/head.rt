@@ -2,7 +2,8 @@
 
 ghost use Rattle.std.specs.Prelude.{◌≡◌, ◌≢◌, Err, IfOk};
 ghost use Rattle.std.specs.FinMap.{get};
-ghost use Rattle.legality_passes.specs.HeadChecks.{head_checked, head_names, inner_checked, keeps_kinds, one_inner_checked, with_pattern};
+ghost use Rattle.std.specs.Option.{option_copied};
+ghost use Rattle.legality_passes.specs.HeadChecks.{bound_head_checked, bounds_checked, head_bound, head_checked, head_names, inner_bounds_checked, inner_checked, keeps_kinds, known_head_checked, one_inner_checked, reducers_refused, unknown_refused, with_pattern};
 
 use crate::kinds::{are_ints, are_splittable, item_kind, pattern_kinds, takes_items};
 use crate::names::{first_among, illegal, mistyped, refuse, repeated, unknown};
@@ -94,6 +95,151 @@ fn keeps_kinds(
     Ok(fits && are_ints(alloc, first, kinds)? && are_ints(alloc, inner, kinds)?)
 }
 
+/// Tries the rules on the kinds and the bounds of the `for` line, told whether the pattern takes the items and whether the
+/// bounds of the first head are literals or outer variables: rules 7 and 9.
+fn check_bounds(
+    alloc: Global,
+    state: State,
+    head: &HeadLine,
+    first: &[Expr],
+    inner: &[Expr],
+    fits: bool,
+    splittable: bool,
+) -> Result<State, LegalRefusal>
+    ensures { result ≢ Err LegalRefusal.NoMemory → result ≡ bounds_checked head.now first.now inner.now fits splittable state }
+{
+    let names = head.names.as_slice();
+    if !keeps_kinds(alloc, fits, first, inner, &state.kinds)? {
+        return Err(mistyped(alloc, head.line, names));
+    }
+    if !splittable {
+        return Err(illegal(alloc, 9, head.line, "for"));
+    }
+    Ok(state)
+}
+
+/// Refuses a `for` line whose bounds read a reducer: rule 5.
+fn refuse_reducers(
+    alloc: Global,
+    reducers: &[TextValue],
+    line: u32,
+    bounds: &[Expr],
+) -> Result<(), LegalRefusal>
+    ensures { result ≢ Err LegalRefusal.NoMemory → result ≡ reducers_refused reducers.now line bounds.now }
+{
+    let used = reads_of_each(alloc, bounds)?;
+    refuse(alloc, 5, line, first_among(reducers, used.as_slice()))
+}
+
+/// Tries what is left behind the first head's reducers: rules 5, 7 and 9.
+fn check_inner_bounds(
+    alloc: Global,
+    reducers: &[TextValue],
+    state: State,
+    head: &HeadLine,
+    first: &[Expr],
+    fits: bool,
+    splittable: bool,
+) -> Result<State, LegalRefusal>
+    ensures { result ≢ Err LegalRefusal.NoMemory → result ≡ inner_bounds_checked reducers.now head.now first.now fits splittable state }
+{
+    let inner = inner_bounds(alloc, head.inner.as_slice())?;
+    refuse_reducers(alloc, reducers, head.line, inner.as_slice())?;
+    check_bounds(
+        alloc,
+        state,
+        head,
+        first,
+        inner.as_slice(),
+        fits,
+        splittable,
+    )
+}
+
+/// Tries the rules behind the first on the `for` line, whose names are bound by now, told the leftmost name that it binds
+/// twice: rules 2, 5, 7 and 9.
+fn check_bound_head(
+    alloc: Global,
+    reducers: &[TextValue],
+    state: State,
+    head: &HeadLine,
+    twice: Option<&TextValue>,
+    fits: bool,
+    splittable: bool,
+) -> Result<State, LegalRefusal>
+    ensures { result ≢ Err LegalRefusal.NoMemory → result ≡ bound_head_checked reducers.now head.now (option_copied twice.entry) fits splittable state }
+{
+    refuse(alloc, 2, head.line, twice)?;
+    let first = first_bounds(alloc, head.axes.as_slice())?;
+    refuse_reducers(alloc, reducers, head.line, first.as_slice())?;
+    check_inner_bounds(
+        alloc,
+        reducers,
+        state,
+        head,
+        first.as_slice(),
+        fits,
+        splittable,
+    )
+}
+
+/// Refuses a `for` line whose first head reads a name that isn't in scope: rule 1.
+fn refuse_unknown(
+    alloc: Global,
+    reducers: &[TextValue],
+    state: &State,
+    line: u32,
+    bounds: &[Expr],
+) -> Result<(), LegalRefusal>
+    ensures { result ≢ Err LegalRefusal.NoMemory → result ≡ unknown_refused reducers.now line bounds.now state.now }
+{
+    let used = reads_of_each(alloc, bounds)?;
+    refuse(
+        alloc,
+        1,
+        line,
+        unknown(reducers, state.scope.as_slice(), used.as_slice()),
+    )
+}
+
+/// Binds the names of all heads, told the kind of the first head's items. Refused by rule 1 where a bound of an inner head reads
+/// a name that isn't in scope.
+fn bind_head(
+    alloc: Global,
+    reducers: &[TextValue],
+    state: State,
+    head: &HeadLine,
+    kind: Option<ValueKind>,
+) -> Result<State, LegalRefusal>
+    ensures { result ≢ Err LegalRefusal.NoMemory → result ≡ head_bound reducers.now head.now kind state }
+{
+    let state = bind_pattern(alloc, state, head.names.as_slice(), kind)?;
+    check_inner(alloc, reducers, state, head.line, head.inner.as_slice())
+}
+
+/// Binds the names of the `for` line, and tries all rules but the first of the first head on it.
+fn check_known_head(
+    alloc: Global,
+    reducers: &[TextValue],
+    state: State,
+    head: &HeadLine,
+    first: &[Expr],
+) -> Result<State, LegalRefusal>
+    ensures { result ≢ Err LegalRefusal.NoMemory → result ≡ known_head_checked reducers.now head.now first.now state }
+{
+    let all_names = head_names(alloc, head)?;
+    let twice = repeated(
+        state.bound.as_slice(),
+        state.sites.as_slice(),
+        all_names.as_slice(),
+    );
+    let splittable = are_splittable(state.scope.as_slice(), first);
+    let kind = item_kind(alloc, head.product, head.axes.as_slice())?;
+    let fits = takes_items(head.names.as_slice(), kind.as_ref());
+    let state = bind_head(alloc, reducers, state, head, kind)?;
+    check_bound_head(alloc, reducers, state, head, twice, fits, splittable)
+}
+
 /// Checks the `for` line: rules 1, 2, 5, 7 and 9.
 pub(crate) fn check_head(
     alloc: Global,
@@ -103,53 +249,7 @@ pub(crate) fn check_head(
 ) -> Result<State, LegalRefusal>
     ensures { result ≢ Err LegalRefusal.NoMemory → result ≡ head_checked reducers.now head.now state }
 {
-    let line = head.line;
-    let names = head.names.as_slice();
     let first = first_bounds(alloc, head.axes.as_slice())?;
-    let first_reads = reads_of_each(alloc, first.as_slice())?;
-    refuse(
-        alloc,
-        1,
-        line,
-        unknown(reducers, state.scope.as_slice(), first_reads.as_slice()),
-    )?;
-    let all_names = head_names(alloc, head)?;
-    let twice = repeated(
-        state.bound.as_slice(),
-        state.sites.as_slice(),
-        all_names.as_slice(),
-    );
-    let splittable = are_splittable(state.scope.as_slice(), first.as_slice());
-    let kind = item_kind(alloc, head.product, head.axes.as_slice())?;
-    let fits = takes_items(names, kind.as_ref());
-    let state = bind_pattern(alloc, state, names, kind)?;
-    let state = check_inner(alloc, reducers, state, line, head.inner.as_slice())?;
-    refuse(alloc, 2, line, twice)?;
-    refuse(
-        alloc,
-        5,
-        line,
-        first_among(reducers, first_reads.as_slice()),
-    )?;
-    let inner = inner_bounds(alloc, head.inner.as_slice())?;
-    let inner_reads = reads_of_each(alloc, inner.as_slice())?;
-    refuse(
-        alloc,
-        5,
-        line,
-        first_among(reducers, inner_reads.as_slice()),
-    )?;
-    if !keeps_kinds(
-        alloc,
-        fits,
-        first.as_slice(),
-        inner.as_slice(),
-        &state.kinds,
-    )? {
-        return Err(mistyped(alloc, line, names));
-    }
-    if !splittable {
-        return Err(illegal(alloc, 9, line, "for"));
-    }
-    Ok(state)
+    refuse_unknown(alloc, reducers, &state, head.line, first.as_slice())?;
+    check_known_head(alloc, reducers, state, head, first.as_slice())
 }

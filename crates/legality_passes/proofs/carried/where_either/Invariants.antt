@@ -1,7 +1,7 @@
-use Rattle.std.proofs.Common.{◌≡◌, ◌++◌, drop}
+use Rattle.std.proofs.Common.{◌≡◌, ◌++◌}
 use Rattle.legality_passes.specs.Scans.{where_either}
 use Rattle.legality_passes.proofs.carried.where_either.Given as goal
 
 -- with the marks to come, these are all
-abbrev pub invariant-loop-i : goal.invariant-loop-i
-invariant-loop-i l = l.met ++ where_either (drop l.i l.left) (drop l.i l.right) ≡ where_either l.left l.right
+abbrev pub invariant-loop-mark : goal.invariant-loop-mark
+invariant-loop-mark l = l.met ++ where_either l.mark-iterator.a.rest.now l.mark-iterator.b.rest.now ≡ where_either l.left l.right
