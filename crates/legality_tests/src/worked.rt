@@ -103,3 +103,60 @@ static WORKED: [Row; 24] = [
 fn worked(rt: HostRuntime) -> Result<(), Fail> {
     check(&rt, rt.alloc(), &WORKED)
 }
+
+/// The examples of docs/LANGUAGE.md: of each rule but the tenth, one that is refused and one that is accepted.
+static DOCUMENTED: [Row; 18] = [
+    ("for x in 1:2\nlet y = z\nend\n", "line 2: unknown name z"),
+    ("var z = 1\nfor x in 1:2\nlet y = z\nend\n", "accepted"),
+    (
+        "for x in 1:2\nif x > 1\nlet y = 1\nelse\nlet y = 2\nend\nend\n",
+        "line 5: name y bound twice",
+    ),
+    (
+        "for x in 1:2\n@reduce s += x\n@reduce s += 1\nend\n",
+        "accepted",
+    ),
+    (
+        "var t = 0\nfor x in 1:3\nt = t + x\nend\n",
+        "line 3: carried variable t",
+    ),
+    ("for x in 1:3\nlet t = 0\nt = t + x\nend\n", "accepted"),
+    (
+        "for x in 1:3\n@init b = 0\nif x > 2\nb = x\nend\n@reduce s += b\nend\n",
+        "line 6: carried scratch b",
+    ),
+    (
+        "for x in 1:3\n@init b = 0\nb = x * 2\n@reduce s += b\nend\n",
+        "accepted",
+    ),
+    (
+        "for x in 1:2\n@reduce s += x\nlet y = s\nend\n",
+        "line 3: reducer s used in the loop",
+    ),
+    ("for x in 1:2\n@reduce s += x\nend\nprint s\n", "accepted"),
+    (
+        "for x in 1:2\n@reduce s += x\n@reduce s = max(x)\nend\n",
+        "line 3: reducer s has another tower",
+    ),
+    (
+        "for x in 1:2\n@reduce m = max(x)\n@reduce m = max(x + 1)\nend\n",
+        "accepted",
+    ),
+    (
+        "for x in 1:2\nif x\nend\nend\n",
+        "line 2: type differs at if",
+    ),
+    ("for x in 1:2\nif x > 1\nend\nend\n", "accepted"),
+    (
+        "for x in 1:2\n@reduce s = count() from 1\nend\n",
+        "line 2: start not allowed for s",
+    ),
+    ("for x in 1:2\n@reduce s = sum(x) from 1\nend\n", "accepted"),
+    ("for x in 1:2 + 3\nend\n", "line 1: head not splittable"),
+    ("var k = 5\nfor x in 1:k\nend\n", "accepted"),
+];
+
+#[test]
+fn documented(rt: HostRuntime) -> Result<(), Fail> {
+    check(&rt, rt.alloc(), &DOCUMENTED)
+}
