@@ -7,6 +7,7 @@ pub mod Going
 pub mod HeadGoes
 pub mod HeadKinds
 pub mod HeadLemmas
+pub mod HeadSteps
 pub mod Knowing
 pub mod LineFirst
 pub mod LineLemmas
