@@ -181,9 +181,13 @@ joined (x ∷ s) t f g = (f.0, joined s t f.1 g)
 with_one : (scope : Scope) (sort : Sort) (n : List ℕ) (x : Option ValueKind) → AreFormed scope → GivesFormed x → AreFormed (scope ++ known_as sort n x ∷ [])
 with_one scope sort n x f g = joined scope (known_as sort n x ∷ []) f (g, tt)
 
+none_known : (sort : Sort) (ns : List (List ℕ)) → AreFormed (map (λ n. known_as sort n None) ns)
+none_known sort [] = tt
+none_known sort (n ∷ ns) = (gives_none, none_known sort ns)
+
 each_formed : (sort : Sort) (ns : List (List ℕ)) (xs : List ValueKind) → AllFormed xs → AreFormed (one_by_one sort ns xs)
 each_formed sort [] [] f = tt
-each_formed sort (n ∷ ns) [] f = (gives_none, each_formed sort ns [] tt)
+each_formed sort (n ∷ ns) [] f = (gives_none, none_known sort ns)
 each_formed sort [] (x ∷ xs) f = tt
 each_formed sort (n ∷ ns) (x ∷ xs) f = (gives x f.0, each_formed sort ns xs f.1)
 

@@ -129,7 +129,7 @@ of_literal (Err s) xs e = absurd (cc)
 start_of : (y : TowerExpr) (names : Kinds) (v : Value) (r : InputKinds) → kinds_of_input y names ≡ r → takes_start (kind_of_tower y) ≡ true → inputs_fit (Some v) (where_given r) ≡ true →
     fits_tower (kind_of_tower y) v ≡ true
 start_of y names v (Ok xs) is s e =
-    let l = of_literal (literal_kind v) xs e in fitting y names v l.0 s (is ∙ ap (λ zs. Ok zs) l.1.1) l.1.0
+    let l = of_literal (literal_kind v) xs e in fitting y names v l.0 s (is ∙ ap (λ zs. Ok zs) l.2) l.1
 start_of y names v (Err f) is s e = absurd (cc)
 
 may : (b : Bool) (n : List ℕ) → (if b then [] else n ∷ []) ≡ [] → b ≡ true

@@ -1,3 +1,4 @@
 mod CheckLemmas
 pub mod FormedScopes
 mod InputLaws
+mod Shared
