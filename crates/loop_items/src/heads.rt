@@ -116,7 +116,7 @@ impl<'a> HeadItems<'a> {
     }
 
     /// The items of a part of the shape, from the first to the last.
-    pub fn walk(&'a self, part: &Part) -> Walk<'a>
+    pub fn walk<'h>(&'h self, part: &Part) -> Walk<'h, 'a>
         requires { part.now.lens ≡ self.now.lens }
         ensures { result ≡ part_items self.now.items part.now }
     {

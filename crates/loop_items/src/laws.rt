@@ -27,7 +27,7 @@ pub fn parts_have_items()
 {}
 
 /// Threads share open heads and walks, and hand them to each other.
-pub fn threads_share_heads<'a>() {
-    is_shared::<HeadItems<'a>>();
-    is_shared::<Walk<'a>>();
+pub fn threads_share_heads<'h, 't: 'h>() {
+    is_shared::<HeadItems<'t>>();
+    is_shared::<Walk<'h, 't>>();
 }

@@ -17,8 +17,8 @@ use std::marker::Model;
 ///
 /// Contracts see the list of those items.
 #[derive(Drop)]
-pub struct Walk<'a> {
-    head: &'a HeadItems<'a>,
+pub struct Walk<'h, 't> {
+    head: &'h HeadItems<'t>,
     /// How long the axes are, and 1 for each axis that isn't there.
     lens: [u64; 4],
     /// The place of the next item on each axis.
@@ -29,7 +29,7 @@ pub struct Walk<'a> {
     end: u64,
 }
 
-impl<'a> Model for Walk<'a> {
+impl<'h, 't> Model for Walk<'h, 't> {
     ghost use Rattle.std.specs.Prelude.{◌≡◌, ◌-◌, List, length};
     ghost use Rattle.splittable.specs.Places.{item_count};
     ghost use Rattle.std.specs.Coded.{coded_list};
@@ -48,9 +48,9 @@ impl<'a> Model for Walk<'a> {
         × (item_count w.head.now.lens ≡ length w.head.now.items) };
 }
 
-impl<'a> Walk<'a> {
+impl<'h, 't> Walk<'h, 't> {
     /// The walk along the items of a part of the head's shape.
-    pub(crate) fn along(head: &'a HeadItems<'a>, shape: Shape, part: &Part) -> Walk<'a>
+    pub(crate) fn along(head: &'h HeadItems<'t>, shape: Shape, part: &Part) -> Walk<'h, 't>
         requires shape { shape ≡ head.now.lens }
         requires part { part.now.lens ≡ head.now.lens }
         requires counted { item_count head.now.lens ≡ length head.now.items }
