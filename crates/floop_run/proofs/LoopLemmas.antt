@@ -1,14 +1,12 @@
 -- The run of the built form: each item is emitted once, in order, and the run ends by itself.
-use Rattle.std.proofs.Common.{◌≡◌, ℕ, ◌+◌, Bool, true, false, List, [], ◌∷◌, ◌++◌, Result, Ok, refl, sym, ap, subst, ◌∙◌, map, rules}
-use Rattle.std.specs.Prelude.{ℤ, pos, filter}
+use Rattle.std.proofs.Common.{◌≡◌, ℕ, ◌+◌, true, List, [], ◌∷◌, Ok, refl, sym, ap, ◌∙◌, map, rules}
+use Rattle.std.specs.Prelude.{ℤ, pos}
 use Rattle.std.specs.Str.{bytes_eq}
 use Rattle.std.specs.FinMap.{empty, get, insert}
 use Rattle.std.specs.Fmt.{signed_decimal}
 use Rattle.std.proofs.lemmas.Slice.Eq.{bytes_eq-Decides}
-use Rattle.loop_data.specs.declared.value.Value.{Value}
 use Rattle.loop_data.specs.declared.value.Value.TheVariants.{Int}
 use Rattle.loop_data.specs.declared.tower.Kind.TheVariants as kind
-use Rattle.loop_values.specs.Operations.{Outcome}
 use Rattle.loop_data.specs.ValueParts.{as_int}
 use Rattle.loop_values.specs.Values.{value_of}
 use Rattle.loop_results.specs.Results.{sum_of}
@@ -19,9 +17,8 @@ use Rattle.number_ranges.specs.Ranges.{range_count, range_items}
 use Rattle.floop_run.specs.BuiltForm.{Loop, IsBuilt}
 use Rattle.floop_run.specs.declared.status.Status.TheVariants as status
 use Rattle.floop_run.specs.Inputs.{number_of, bound_to, input_at, inputs_at}
-use Rattle.floop_run.specs.Items.{items_of}
-use Rattle.floop_run.specs.PlainLoop.{Store, Emitted, Step, Run, StepEnd, goes_on, ran, reduced, body_step, with_step, loop_run, start_store, inputs_of}
-use Rattle.floop_run.specs.Answers.{Answer, line, run_answer, loop_answer}
+use Rattle.floop_run.specs.PlainLoop.{Store, Emitted, Run, goes_on, ran, reduced, body_step, with_step, loop_run, start_store, inputs_of}
+use Rattle.floop_run.specs.Answers.{line, run_answer, loop_answer}
 use Rattle.floop_run.proofs.NumericLemmas.{numeric}
 
 module _ (loop : Loop) (built : IsBuilt loop) where

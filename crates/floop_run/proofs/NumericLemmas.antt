@@ -1,7 +1,6 @@
 -- An expression of numbers and of the variable gives a number, the same wherever the variable has the same number.
-use Rattle.std.proofs.Common.{◌≡◌, ℕ, Bool, true, false, List, Some, None, Ok, refl, ap, sym, ◌∙◌, subst}
+use Rattle.std.proofs.Common.{◌≡◌, ℕ, Bool, true, false, List, Some, Ok, refl, ap, ◌∙◌, subst}
 use Rattle.std.specs.Prelude.{ℤ, not, ◌&&◌}
-use Rattle.std.specs.Str.{bytes_eq}
 use Rattle.loop_data.specs.declared.value.Value.{Value}
 use Rattle.loop_data.specs.declared.value.Value.TheVariants.{Int}
 use Rattle.loop_data.specs.declared.expr.Op.{Op}
@@ -9,7 +8,7 @@ use Rattle.loop_data.specs.declared.expr.Op.TheVariants as op
 use Rattle.loop_data.specs.declared.expr.Expr.{Expr, fold-roll-Expr, ind-Expr, map-Expr}
 use Rattle.loop_data.specs.declared.expr.Expr.TheOpen.{Expr-F, Expr-F as e}
 use Rattle.loop_values.specs.Bindings.{Names}
-use Rattle.loop_values.specs.Operations.{Outcome, and_then, two_of}
+use Rattle.loop_values.specs.Operations.{Outcome, and_then}
 use Rattle.loop_values.specs.Values.{Meaning, value_of, value_step, bound, second}
 use Rattle.loop_values.proofs.EntryLemmas.{same_text}
 use Rattle.floop_run.specs.BuiltForm.{int_of, is_none, is_ring, is_numeric, numeric_step}

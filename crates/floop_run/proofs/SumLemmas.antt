@@ -1,5 +1,5 @@
 -- The sum of what items give, with one item more.
-use Rattle.std.proofs.Common.{◌≡◌, ℕ, suc, pos, ℤ, ◌+◌, ◌+ℤ◌, List, [], ◌∷◌, ◌++◌, ap, ◌∙◌, arith}
+use Rattle.std.proofs.Common.{◌≡◌, ℕ, pos, ℤ, ◌+◌, ◌+ℤ◌, List, [], ◌∷◌, ◌++◌, ap, ◌∙◌, arith}
 use Rattle.std.specs.Prelude.{map}
 use Rattle.std.proofs.lemmas.Int.{ints}
 use Rattle.loop_results.specs.Results.{sum_of}

@@ -1,6 +1,6 @@
 -- The answer of a call: its status and the text that it writes, from the words and what files hold. No thread,
 -- part or schedule is in it. Source: this project.
-use Rattle.std.specs.Prelude.{◌≡◌, ℕ, ◌<◌, ◌≤◌, List, [], ◌∷◌, ◌++◌, length, codes, Option, Some, None}
+use Rattle.std.specs.Prelude.{◌≡◌, ℕ, ◌<◌, ◌≤◌, List, [], ◌∷◌, ◌++◌, length, codes, Option, Some, None, Result, Ok, Err}
 use Rattle.std.specs.FinMap.{get}
 use Rattle.std.specs.Fmt.{decimal}
 use Rattle.edge_io.specs.Reading.{Held}
@@ -17,7 +17,9 @@ use Rattle.floop_run.specs.declared.status.Status.{Status}
 use Rattle.floop_run.specs.declared.status.Status.TheVariants as status
 use Rattle.floop_run.specs.Items.{items_of}
 use Rattle.floop_run.specs.PlainLoop.{Run, RunEnd, ran, faulted, start_store, loop_run, inputs_of}
-use Rattle.floop_run.specs.Words.{loop_name}
+use Rattle.program_words.specs.Requests.{Request, request_of}
+use Rattle.program_words.specs.declared.command.Call.TheVariants as call
+use Rattle.floop_run.specs.Requests.{built_file}
 
 pub record Answer : Type 0 where
   pub status : Status
@@ -34,6 +36,10 @@ refused text = record { status = status.Refused; text = line text }
 -- the answer where a file that the call reaches isn't held: nothing is written
 abbrev pub not_held : Answer
 not_held = record { status = status.ReadFault; text = [] }
+
+-- the answer where a request isn't served yet, or a program isn't of the form that runs
+abbrev pub not_built : Answer
+not_built = refused (codes "form not built")
 
 -- the most bytes of a loop file
 abbrev pub loop_file_limit : ℕ
@@ -60,7 +66,7 @@ loop_answer loop = let run = loop_run loop (start_store loop) (items_of loop) 1 
 
 -- the answer for a program's loop, if it is of the form that runs
 abbrev pub built_answer : Option Loop → Answer
-built_answer None = refused (codes "form not built")
+built_answer None = not_built
 built_answer (Some loop) = loop_answer loop
 
 abbrev pub program_answer : ProgramTree → Answer
@@ -77,18 +83,23 @@ pub data IsFileAnswer : Option (List ℕ) → Answer → Type 0 where
   too_long : {bytes : List ℕ} → loop_file_limit < length bytes → IsFileAnswer (Some bytes) (refused (codes "loop file: over 65536 bytes"))
   within : {bytes : List ℕ} {answer : Answer} → length bytes ≤ loop_file_limit → IsTextAnswer bytes answer → IsFileAnswer (Some bytes) answer
 
--- the answer where the words name no loop file
-abbrev pub words_answer : Answer
-words_answer = refused (codes "form not built")
-
--- the answer for the name of the loop file, if the words give one
+-- the answer for the loop file of a request, if the request is served
 pub data IsNameAnswer : Option (List ℕ) → Held → Answer → Type 0 where
-  no_name : {held : Held} → IsNameAnswer None held words_answer
+  no_name : {held : Held} → IsNameAnswer None held not_built
   named : {name : List ℕ} {held : Held} {answer : Answer} → IsFileAnswer (get held name) answer → IsNameAnswer (Some name) held answer
+
+-- the answer for what the words are: the text of their first refusal, or what their request asks for
+pub data IsRequestAnswer : Result Request (List ℕ) → Held → Answer → Type 0 where
+  no_request : {text : List ℕ} {held : Held} → IsRequestAnswer (Err text) held (refused text)
+  asked : {request : Request} {held : Held} {answer : Answer} → IsNameAnswer (built_file request) held answer → IsRequestAnswer (Ok request) held answer
+
+-- what the words are to the program's call
+abbrev pub request_in : List (List ℕ) → Result Request (List ℕ)
+request_in words = request_of call.Direct words
 
 -- The answer of a call with these words over these files.
 abbrev pub IsAnswer : List (List ℕ) → Held → Answer → Type 0
-IsAnswer words held answer = IsNameAnswer (loop_name words) held answer
+IsAnswer words held answer = IsRequestAnswer (request_in words) held answer
 
 -- words over files have one answer at most
 abbrev pub OneAnswer : Type 0

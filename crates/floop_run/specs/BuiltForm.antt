@@ -1,6 +1,6 @@
 -- The form of program that runs: one range, one sum of an expression of numbers, one printed result.
 -- Source: this project.
-use Rattle.std.specs.Prelude.{◌≡◌, ◌≤◌, ℕ, ◌+◌, List, [], ◌∷◌, Bool, true, false, not, ◌&&◌, nat_le, Option, Some, None, if◌then◌else◌, ℤ, pos}
+use Rattle.std.specs.Prelude.{◌≡◌, ◌≤◌, ℕ, List, [], ◌∷◌, Bool, true, false, not, ◌&&◌, nat_le, Option, Some, None, if◌then◌else◌, ℤ, pos}
 use Rattle.number_ranges.specs.Ranges.{range_count}
 use Rattle.std.specs.Str.{bytes_eq}
 use Rattle.loop_data.specs.declared.value.Value.{Value}
@@ -19,8 +19,6 @@ use Rattle.loop_data.specs.declared.statement.Statement.{Statement, out-Statemen
 use Rattle.loop_data.specs.declared.statement.Statement.TheOpen.{Statement-F, Statement-F as s}
 use Rattle.loop_data.specs.declared.head.Axis.{Axis, out-Axis}
 use Rattle.loop_data.specs.declared.head.Axis.TheOpen.{Axis-F, Axis-F as axis}
-use Rattle.loop_data.specs.declared.head.Binding.{Binding}
-use Rattle.loop_data.specs.declared.head.Inner.{Inner}
 use Rattle.loop_data.specs.declared.head.HeadLine.{HeadLine}
 use Rattle.loop_data.specs.declared.head.PrintLine.{PrintLine}
 use Rattle.loop_grammar.specs.declared.tree.ProgramTree.{ProgramTree}

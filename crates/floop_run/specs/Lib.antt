@@ -5,6 +5,6 @@ pub mod Inputs
 pub mod Items
 pub mod Outputs
 pub mod PlainLoop
+pub mod Requests
 pub mod StatusCodes
 pub mod TopCall
-pub mod Words

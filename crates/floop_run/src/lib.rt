@@ -1,4 +1,4 @@
-//! The program: its words, its commands, and the top call [`floop_words`].
+//! The program: its requests, and the top call [`floop_words`].
 //!
 //! The clauses of [`floop_words`] are what floop is for: where files and sink tell their bytes and no fault is
 //! counted, the status and the bytes written are those of the answer, which specs/Answers defines: by the words, the
@@ -12,8 +12,7 @@ mod output;
 mod run;
 mod status;
 mod top;
-mod words;
 
 pub use laws::{built_loops_are_done, one_answer, some_answer};
-pub use status::Status;
+pub use status::{Status, exit_code};
 pub use top::floop_words;

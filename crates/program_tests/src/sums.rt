@@ -178,25 +178,58 @@ fn texts_that_are_no_program(rt: HostRuntime) -> Result<(), Fail> {
     check_rows(&rt, rt.alloc(), &rows, Status::Refused)
 }
 
+static REFUSED: [(&[&str], &[u8]); 10] = [
+    (
+        &[],
+        b"usage: floop check, explain, run, pool or try, then name=value\n",
+    ),
+    (&["pool", "loop=sum.floop"], b"unknown command: pool\n"),
+    (&["run", "sum.floop"], b"not a setting: sum.floop\n"),
+    (
+        &["run", "workers=33", "loop=sum.floop"],
+        b"unknown setting: workers\n",
+    ),
+    (
+        &["run", "loop=sum.floop", "loop=b"],
+        b"setting twice: loop\n",
+    ),
+    (&["run", "loop="], b"bad value: loop=\n"),
+    (
+        &["run", "loop=sum.floop", "data=a.csv,"],
+        b"bad value: data=a.csv,\n",
+    ),
+    (&["run"], b"missing setting: loop\n"),
+    // requests that aren't served yet
+    (&["check", "loop=sum.floop"], NOT_BUILT),
+    (&["run", "loop=sum.floop", "data=a.csv"], NOT_BUILT),
+];
+
 #[test]
 fn refused_words(rt: HostRuntime) -> Result<(), Fail> {
     let alloc = rt.alloc();
-    let refused: [&[&str]; 6] = [
-        &["run", "loop=a", "loop=b"],
-        &["run"],
-        &[],
-        &["run", "loop="],
-        &["pool", "loop=sum.floop"],
-        &["run", "sum.floop"],
-    ];
-    for words in refused {
+    for (words, wanted) in &REFUSED {
         let words = words_of(alloc, words)?;
+        // The first read would fail, but none is made.
         let mut files = files_with(alloc, LOOP)?;
+        files.fail_at(alloc, 1)?;
         let mut out = MemorySink::new(alloc);
         let status = floop_words(alloc, &words, &mut files, &mut out);
-        assert_eq!(rt; out.bytes(), NOT_BUILT);
+        assert_eq!(rt; out.bytes(), *wanted);
         assert_eq!(rt; status, Status::Refused);
     }
+    Ok(())
+}
+
+#[test]
+fn refused_words_and_a_sink_that_fails(rt: HostRuntime) -> Result<(), Fail> {
+    let alloc = rt.alloc();
+    let words = words_of(alloc, &["stop"])?;
+    let mut files = MemoryFiles::new(alloc);
+    let mut out = MemorySink::new(alloc);
+    out.fail_at(alloc, 1, 7)?;
+    let status = floop_words(alloc, &words, &mut files, &mut out);
+    assert_eq!(rt; out.bytes(), b"unknown".as_slice());
+    assert_eq!(rt; status, Status::WriteFault);
     Ok(())
 }
 

@@ -2,7 +2,7 @@ use Rattle.std.proofs.Common.{◌≡◌, ◌≢◌, sym, subst}
 use Rattle.std.proofs.lemmas.Result.{IfOk-weaker}
 use Rattle.loop_grammar.specs.declared.refusal.SyntaxRefusal.TheVariants as syntax
 use Rattle.loop_grammar.specs.Texts.{SpellsProgram}
-use Rattle.floop_run.specs.Answers.{IsTextAnswer, refused_text, read, refused, program_answer}
+use Rattle.floop_run.specs.Answers.{IsTextAnswer, refused_text, read, refused}
 use Rattle.loop_grammar.specs.RefusalTexts.{syntax_text}
 use Rattle.floop_run.specs.Outputs.{answer_in}
 use Rattle.floop_run.proofs.AnswerLemmas.{both_ok}

@@ -22,5 +22,5 @@ returns-in-Err-TooLong-clause-output g c =
     let r = c.read_named.result in
     let long = c.in-Err-TooLong.is ∙ ap Err c.in-Err-TooLong.field-0-is in
     every_of (g.F.Files.held c.args.files.now) _ _ (λ held reads.
-    long_read r (get held c.args.name.now) _ _ _ long (reads (long_not_failed r long) (long_not_memory r long)) c.in_ok-refusal-in-Err-TooLong.ensures)
+    long_read r (get held c.args.name.now) _ _ _ long (reads (long_not_failed r long) (long_not_memory r long)) c.in_ok-refusal-in-Err-TooLong.ensures.answer)
     c.read_named.ensures.answer
