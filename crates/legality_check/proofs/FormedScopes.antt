@@ -1,5 +1,5 @@
 -- The kinds of the names in scope are well formed on every line of a program that some text spells.
-use Rattle.std.proofs.Common.{◌≡◌, ℕ, ◌≤◌, ◌+◌, Bool, true, false, List, [], ◌∷◌, ◌++◌, map, length, Option, Some, None, Ok, Err, refl, sym, ap, subst, ◌∙◌, rules, codes}
+use Rattle.std.proofs.Common.{◌≡◌, ℕ, Bool, true, false, List, [], ◌∷◌, ◌++◌, map, length, Option, Some, None, Ok, Err, refl, sym, ap, subst, ◌∙◌, rules, codes}
 use Rattle.std.specs.Prelude.{◌&&◌, if◌then◌else◌}
 use Rattle.std.specs.List.{list_all, AllByRecursion}
 use Rattle.std.specs.Option.{option_and_then}
@@ -26,14 +26,13 @@ use Rattle.loop_grammar.specs.declared.tree.ProgramTree.{ProgramTree}
 use Rattle.loop_grammar.specs.Nesting.{Nests, NestsStatement, NestsBlock, NestsParts, head_line, on}
 use Rattle.loop_grammar.specs.WellFormed.{are_heads, are_lines, are_several, is_factor, is_head, is_pattern, is_plain, is_well_formed as is_formed_tree, is_within, factor_at, plain_at}
 use Rattle.loop_grammar.specs.TreeLines.{tree_lines, skip_before, vars_before, heads_of}
-use Rattle.loop_values.specs.Kinds.{Kinds, Kinded, AreWellFormed, inside_maybe_at, is_plain_kind, is_tuple_length, is_well_formed, kind_of, literal_kind, plain_kind_step}
+use Rattle.loop_values.specs.Kinds.{Kinded, AreWellFormed, inside_maybe_at, is_plain_kind, is_tuple_length, is_well_formed, kind_of, literal_kind, plain_kind_step}
 use Rattle.loop_values.proofs.FormedLemmas.{kinds_formed}
 use Rattle.legality_rules.specs.declared.scope.Known.{Known}
 use Rattle.legality_rules.specs.declared.scope.Sort.{Sort}
 use Rattle.legality_rules.specs.declared.scope.Sort.TheVariants.{Local, LoopVariable, Scratch, Variable}
-use Rattle.legality_rules.specs.Scopes.{Scope, axis_kind, axis_step, fits_pattern, found, item_kind, kinds_in, known_as, look_up, one_by_one, only_kind, parts_at, parts_of, pattern_kinds, pattern_parts, unwrapped, unwrapped_at}
+use Rattle.legality_rules.specs.Scopes.{Scope, axis_kind, axis_step, fits_pattern, found, item_kind, kinds_in, known_as, look_up, one_by_one, parts_at, parts_of, pattern_kinds, pattern_parts, unwrapped, unwrapped_at}
 use Rattle.legality_rules.specs.Lines.{Entry, Listed, Listing, branches_in_turn, entries_of, head_listing, in_turn, init_listing, inner_listing, print_listing, statement_listing, branch_listing, var_listing, listings}
-use Rattle.legality_rules.specs.Cuts.{scope_after}
 use Rattle.legality_rules.proofs.Layers.{listing-Let, listing-Set, listing-Keep, listing-Reduce, listing-Continue, listing-Break, listing-If, listing-branch}
 
 -- ---- kinds

@@ -1,6 +1,6 @@
 -- In a legal program start values and inputs fit their towers.
-use Rattle.std.proofs.Common.{◌≡◌, ℕ, Bool, true, false, not, List, [], ◌∷◌, ◌++◌, map, Option, Some, None, Ok, Err, refl, sym, ap, subst, ◌∙◌, rules}
-use Rattle.std.specs.Prelude.{◌&&◌, if◌then◌else◌}
+use Rattle.std.proofs.Common.{◌≡◌, ℕ, Bool, true, false, List, [], ◌∷◌, ◌++◌, Option, Some, None, Ok, Err, refl, sym, ap, subst, ◌∙◌, rules}
+use Rattle.std.specs.Prelude.{if◌then◌else◌}
 use Rattle.std.specs.List.{AllByRecursion}
 use Rattle.std.proofs.lemmas.Bool.{and_parts}
 use Rattle.loop_data.specs.declared.value.Value.{Value, the_lemmas as value_lemmas}
@@ -10,12 +10,8 @@ use Rattle.loop_data.specs.declared.value.ValueKind.TheVariants as kind
 use Rattle.loop_data.specs.declared.expr.Expr.{Expr}
 use Rattle.loop_data.specs.declared.tower.Kind.{Kind, out-Kind, the_lemmas as tower_kind_lemmas}
 use Rattle.loop_data.specs.declared.tower.Kind.TheOpen.{Kind-F, Kind-F as k}
-use Rattle.loop_data.specs.declared.tower.Kind.TheVariants as tower_kind
 use Rattle.loop_data.specs.declared.tower.TowerExpr.{TowerExpr, out-TowerExpr, roll-TowerExpr, the_lemmas as tower_lemmas}
 use Rattle.loop_data.specs.declared.tower.TowerExpr.TheOpen.{TowerExpr-F, TowerExpr-F as t}
-use Rattle.loop_data.specs.declared.tower.TowerExpr.TheVariants as tower
-use Rattle.loop_grammar.specs.declared.tree.ProgramTree.{ProgramTree}
-use Rattle.loop_grammar.specs.Texts.{SpellsProgram}
 use Rattle.loop_syntax.proofs.WellFormedTexts.{programs_are_well_formed}
 use Rattle.loop_values.specs.Fits.{fits, fits_tower}
 use Rattle.loop_values.specs.Kinds.{Kinded, Kinds, AreWellFormed, is_well_formed, kind_of, literal_kind}
@@ -23,16 +19,15 @@ use Rattle.tower_inputs.specs.InputKinds.{InputKinds, kind_that, kinds_of_input,
 use Rattle.tower_inputs.specs.Towers.{kind_of_tower, with_place, with_place_at}
 use Rattle.tower_inputs.proofs.InputFits.{input_fits, start_fits}
 use Rattle.tower_inputs.proofs.SameKinds.{same_kinds-sound}
-use Rattle.legality_rules.specs.Scopes.{Scope, kinds_in}
-use Rattle.legality_rules.specs.Towers.{Inputs, input_kinds, takes_start, takes_start_at, where_given}
+use Rattle.legality_rules.specs.Scopes.{kinds_in}
+use Rattle.legality_rules.specs.Towers.{input_kinds, takes_start, takes_start_at, where_given}
 use Rattle.legality_rules.specs.Lines.{Entry, Form, var_line, first_head, inner_head, init_line, let_line, set_line, condition, keep_line, reduce_line, print_line, entries_of}
-use Rattle.legality_rules.specs.Rules.{Spot, allowed, inputs_fit, is_none, keeps_kinds, may_start, outline_of, passes, rules as all_rules, sites_of, starts_not_allowed, starts_refused}
-use Rattle.legality_rules.specs.Offences.{IsLegal, spots_after, spots_of}
+use Rattle.legality_rules.specs.Rules.{Spot, allowed, inputs_fit, is_none, keeps_kinds, may_start, outline_of, passes, rules as all_rules, sites_of, starts_refused}
+use Rattle.legality_rules.specs.Offences.{spots_after, spots_of}
 use Rattle.legality_rules.specs.Laws.{KeepsRules}
-use Rattle.legality_rules.proofs.Layers.{kinds_of_input-Leaf}
 use Rattle.legality_rules.proofs.RuleLemmas.{legal_keeps, legal_kinds}
 use Rattle.legality_check.specs.Laws.{EmitsFitting, InputsFit, StartFits, KindsInScopeAreWellFormed, LegalInputsFit}
-use Rattle.legality_check.proofs.FormedScopes.{AreFormed, EntriesFormed, formed_kinds, scopes_formed}
+use Rattle.legality_check.proofs.FormedScopes.{EntriesFormed, formed_kinds, scopes_formed}
 
 -- ---- what is emitted
 

@@ -1,7 +1,6 @@
 //! Legal programs.
 
 ghost use Rattle.std.specs.Prelude.{◌≡◌, ◌≢◌, ◌↔◌, Err, IfOk, IsOk};
-ghost use Rattle.loop_data.specs.declared.text.TextValue.{TextValue};
 ghost use Rattle.legality_rules.specs.declared.refusal.Offence.{Offence};
 ghost use Rattle.legality_rules.specs.Offences.{IsFirstOffence, IsLegal};
 
@@ -50,7 +49,8 @@ impl LegalProgram {
 pub fn check_program(alloc: Global, program: Program) -> Result<LegalProgram, LegalRefusal>
     ensures same { IfOk result (λ legal. legal ≡ program) }
     ensures legal { result ≢ Err LegalRefusal.NoMemory → IsOk result ↔ IsLegal program }
-    ensures first { (o : Offence) → result ≢ Err LegalRefusal.NoMemory → result ≡ Err (LegalRefusal.Illegal o) ↔ IsFirstOffence program o }
+    ensures first { (o : Offence) → result ≢ Err LegalRefusal.NoMemory →
+        result ≡ Err (LegalRefusal.Illegal o) ↔ IsFirstOffence program o }
 {
     check_tree(alloc, program.tree())?;
     Ok(LegalProgram { program })
