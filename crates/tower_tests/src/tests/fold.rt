@@ -51,7 +51,31 @@ fn fold_in_parts<H: Abort>(
     tower.merge(alloc, left, right)
 }
 
-/// Checks that the inputs, cut at each place, come to the wanted text, and a copy of the state to the same.
+/// Checks that the inputs, cut at a place, come to the wanted text, and a copy of the state to the same.
+pub fn check_at<H: Abort>(
+    rt: &H,
+    alloc: Global,
+    kind: &Kind,
+    inputs: &[Value],
+    cut: usize,
+    want: &str,
+) -> Result<(), Fail> {
+    assert!(rt; cut <= inputs.len());
+    assert!(rt; inputs.len() <= 4611686018427387904);
+    let tower = Tower::new(alloc, kind)?;
+    let state = fold_in_parts(rt, alloc, &tower, inputs, cut)?;
+    let text = format!(in alloc; "{state}")?;
+    assert!(rt;
+        text.as_str() == want,
+        "{kind} cut at {cut}: {text}, not {want}"
+    );
+    let copy = state.copy(alloc)?;
+    let text = format!(in alloc; "{copy}")?;
+    assert!(rt; text.as_str() == want, "{kind} copied: {text}, not {want}");
+    Ok(())
+}
+
+/// Checks that the inputs, cut at each place, come to the wanted text, and copies of the states to the same.
 pub fn check<H: Abort>(
     rt: &H,
     alloc: Global,
@@ -59,18 +83,8 @@ pub fn check<H: Abort>(
     inputs: &[Value],
     want: &str,
 ) -> Result<(), Fail> {
-    assert!(rt; inputs.len() < 1000);
-    let tower = Tower::new(alloc, kind)?;
     for cut in 0..inputs.len() + 1 {
-        let state = fold_in_parts(rt, alloc, &tower, inputs, cut)?;
-        let text = format!(in alloc; "{state}")?;
-        assert!(rt;
-            text.as_str() == want,
-            "{kind} cut at {cut}: {text}, not {want}"
-        );
-        let copy = state.copy(alloc)?;
-        let text = format!(in alloc; "{copy}")?;
-        assert!(rt; text.as_str() == want, "{kind} copied: {text}, not {want}");
+        check_at(rt, alloc, kind, inputs, cut, want)?;
     }
     Ok(())
 }

@@ -13,6 +13,7 @@ const REGIONS: [&'static str; 3] = ["north", "south", "north"];
 fn groups_and_pairs_of_no_inputs(rt: HostRuntime) -> Result<(), Fail> {
     let alloc = rt.alloc();
     check(&rt, alloc, &group(alloc, Kind::Sum)?, &[], "{}")?;
+    check(&rt, alloc, &group(alloc, Kind::Count)?, &[], "{}")?;
     check(
         &rt,
         alloc,
@@ -20,6 +21,23 @@ fn groups_and_pairs_of_no_inputs(rt: HostRuntime) -> Result<(), Fail> {
         &[],
         "(false, [])",
     )?;
+    Ok(())
+}
+
+#[test]
+fn groups_and_pairs_of_one_input(rt: HostRuntime) -> Result<(), Fail> {
+    let alloc = rt.alloc();
+    let inputs = with_keys(alloc, &["north"], ints(alloc, &[10])?)?;
+    check(
+        &rt,
+        alloc,
+        &group(alloc, Kind::Sum)?,
+        &inputs,
+        "{north: 10}",
+    )?;
+    let kind = both(alloc, Kind::Least, Kind::Count)?;
+    let inputs = pairs(alloc, ints(alloc, &[-3])?, nothings(alloc, 1)?)?;
+    check(&rt, alloc, &kind, &inputs, "(-3, 1)")?;
     Ok(())
 }
 
@@ -89,6 +107,8 @@ fn lists_hold_their_inputs_in_order(rt: HostRuntime) -> Result<(), Fail> {
     check(&rt, alloc, &Kind::Listed, &inputs, "[10, 7, 4, 1]")?;
     let inputs = ints(alloc, &[4, 7])?;
     check(&rt, alloc, &Kind::Listed, &inputs, "[4, 7]")?;
+    let inputs = ints(alloc, &[1, 2, 3])?;
+    check(&rt, alloc, &Kind::Listed, &inputs, "[1, 2, 3]")?;
     let slow = ints(alloc, &[1, 1, 2, 2, 3, 3])?;
     let inputs = pairs(alloc, ints(alloc, &[1, 2, 1, 2, 1, 2])?, slow)?;
     check(

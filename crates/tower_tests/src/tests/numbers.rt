@@ -1,7 +1,7 @@
 //! Each kind that has no inner tower, with no input, with one and with several, cut at each place.
 
 use super::build::{ints, nothings, pair, text, texts, truths, with_places};
-use super::fold::check;
+use super::fold::{check, check_at};
 use loop_data::{Kind, Value};
 use no_memory::NoMemory;
 use std::test::Fail;
@@ -37,6 +37,27 @@ fn one_input_comes_to_itself(rt: HostRuntime) -> Result<(), Fail> {
     check(&rt, alloc, &Kind::Last, &one, "-7")?;
     check(&rt, alloc, &Kind::Listed, &one, "[-7]")?;
     Ok(())
+}
+
+#[test]
+fn one_truth_value_and_one_place_come_to_themselves(rt: HostRuntime) -> Result<(), Fail> {
+    let alloc = rt.alloc();
+    for (truth, text) in [(true, "true"), (false, "false")] {
+        let one = truths(alloc, &[truth])?;
+        check(&rt, alloc, &Kind::Any, &one, text)?;
+        check(&rt, alloc, &Kind::All, &one, text)?;
+    }
+    let one = with_places(alloc, ints(alloc, &[-7])?)?;
+    check(&rt, alloc, &Kind::LeastAt, &one, "-7 at 1")?;
+    check(&rt, alloc, &Kind::GreatestAt, &one, "-7 at 1")?;
+    Ok(())
+}
+
+#[test]
+fn a_million_inputs_are_counted(rt: HostRuntime) -> Result<(), Fail> {
+    let alloc = rt.alloc();
+    let inputs = nothings(alloc, 1000000)?;
+    check_at(&rt, alloc, &Kind::Count, &inputs, 300000, "1000000")
 }
 
 #[test]
@@ -97,6 +118,8 @@ fn equal_extremes_stand_at_their_least_place(rt: HostRuntime) -> Result<(), Fail
     let inputs = with_places(alloc, ints(alloc, &[3, 9, 4, 9, 3])?)?;
     check(&rt, alloc, &Kind::GreatestAt, &inputs, "9 at 2")?;
     check(&rt, alloc, &Kind::LeastAt, &inputs, "3 at 1")?;
+    check(&rt, alloc, &Kind::GreatestAt, &inputs[..4], "9 at 2")?;
+    check(&rt, alloc, &Kind::LeastAt, &inputs[..4], "3 at 1")?;
     let words = with_places(alloc, texts(alloc, &["b", "a", "b", "a"])?)?;
     check(&rt, alloc, &Kind::GreatestAt, &words, "b at 1")?;
     check(&rt, alloc, &Kind::LeastAt, &words, "a at 2")?;

@@ -4,7 +4,7 @@ ghost use Rattle.std.specs.Prelude.{◌≡◌, ◌≤◌, ◌^◌, true, length,
 ghost use Rattle.reducer_tower.specs.declared.row.Emitted.{Emitted};
 ghost use Rattle.reducer_tower.specs.Rows.{RowStands, Takes, fits_start};
 
-use super::build::{both, group, ints, pair, text, with_keys};
+use super::build::{both, group, ints, pair, text, texts, truths, with_keys};
 use super::fits::fits;
 use loop_data::{Kind, Value};
 use no_memory::NoMemory;
@@ -56,9 +56,9 @@ fn fold_row<H: Abort>(
 ) -> Result<RowState, NoMemory>
     ensures stands { IfOk result (λ state.
         RowStands row.now.towers.items state.states.items inputs.items) }
-    ensures few { length inputs.items ≤ 2 ^ 61 }
+    ensures few { length inputs.items ≤ 2 ^ 60 }
 {
-    assert!(rt; inputs.len() <= 2305843009213693952);
+    assert!(rt; inputs.len() <= 1152921504606846976);
     let mut state = row.unit(alloc)?;
     for input in inputs {
         assert!(rt; takes(row, &input));
@@ -67,17 +67,20 @@ fn fold_row<H: Abort>(
     Ok(state)
 }
 
-/// The same with the start values of the towers before their inputs.
+/// Folds two lists of inputs apart, puts the states together, and the start values of the towers before their inputs.
 fn fold_with_starts<H: Abort>(
     rt: &H,
     alloc: Global,
     row: &Row,
-    inputs: Vec<Emitted>,
+    left: Vec<Emitted>,
+    right: Vec<Emitted>,
 ) -> Result<RowState, NoMemory>
     ensures { IfOk result (λ state. (inputs : List Emitted) ×
         RowStands row.now.towers.items state.states.items inputs) }
 {
-    let state = fold_row(rt, alloc, row, inputs)?;
+    let before = fold_row(rt, alloc, row, left)?;
+    let after = fold_row(rt, alloc, row, right)?;
+    let state = row.merge(alloc, before, after)?;
     row.with_starts(alloc, state)
 }
 
@@ -104,20 +107,11 @@ fn check_text<H: Abort>(
     Ok(())
 }
 
-/// The numbers from 1 on as inputs of a tower.
-fn numbers(alloc: Global, tower: u32, last: u32) -> Result<Vec<Emitted>, NoMemory> {
-    let mut inputs = Vec::new(alloc);
-    for n in 0..last {
-        let value = Value::Int(i64::from(n) + 1);
-        inputs.push(Emitted { tower, value })?;
-    }
-    Ok(inputs)
-}
-
-/// The inputs of one tower.
-fn of_tower(alloc: Global, tower: u32, values: Vec<Value>) -> Result<Vec<Emitted>, NoMemory> {
+/// Values as inputs of one tower.
+fn of_tower(alloc: Global, tower: u32, values: &[Value]) -> Result<Vec<Emitted>, NoMemory> {
     let mut inputs = Vec::new(alloc);
     for value in values {
+        let value = value.copy(alloc)?;
         inputs.push(Emitted { tower, value })?;
     }
     Ok(inputs)
@@ -148,8 +142,31 @@ fn row_of<H: Abort>(
     Ok(row)
 }
 
-/// Folds the numbers from 1 to 8 by a tower with a start value and checks its text with the start value and without.
+/// Folds inputs by a tower with a start value. Checks its text without the start value, and, from the inputs cut at each place
+/// and folded in parts, with it.
 fn check_start<H: Abort>(
+    rt: &H,
+    alloc: Global,
+    kind: &Kind,
+    start: Value,
+    inputs: &[Value],
+    with: &str,
+    without: &str,
+) -> Result<(), Fail> {
+    let row = row_of(rt, alloc, kind, Some(start))?;
+    let state = fold_row(rt, alloc, &row, of_tower(alloc, 0, inputs)?)?;
+    check_text(rt, alloc, &row, &state, "s", without)?;
+    for cut in 0..inputs.len() + 1 {
+        let left = of_tower(alloc, 0, &inputs[..cut])?;
+        let right = of_tower(alloc, 0, &inputs[cut..])?;
+        let state = fold_with_starts(rt, alloc, &row, left, right)?;
+        check_text(rt, alloc, &row, &state, "s", with)?;
+    }
+    Ok(())
+}
+
+/// The same for the numbers from 1 to 8.
+fn check_from<H: Abort>(
     rt: &H,
     alloc: Global,
     kind: &Kind,
@@ -157,33 +174,54 @@ fn check_start<H: Abort>(
     with: &str,
     without: &str,
 ) -> Result<(), Fail> {
-    let row = row_of(rt, alloc, kind, Some(Value::Int(start)))?;
-    let state = fold_row(rt, alloc, &row, numbers(alloc, 0, 8)?)?;
-    check_text(rt, alloc, &row, &state, "s", without)?;
-    let state = fold_with_starts(rt, alloc, &row, numbers(alloc, 0, 8)?)?;
-    check_text(rt, alloc, &row, &state, "s", with)?;
-    Ok(())
+    let inputs = ints(alloc, &[1, 2, 3, 4, 5, 6, 7, 8])?;
+    check_start(rt, alloc, kind, Value::Int(start), &inputs, with, without)
 }
 
 #[test]
 fn a_start_value_is_one_more_input_before_all_others(rt: HostRuntime) -> Result<(), Fail> {
     let alloc = rt.alloc();
-    check_start(&rt, alloc, &Kind::Sum, 100, "136", "36")?;
-    check_start(&rt, alloc, &Kind::Prod, -1, "-40320", "40320")?;
-    check_start(&rt, alloc, &Kind::Least, 0, "0", "1")?;
-    check_start(&rt, alloc, &Kind::Least, 9, "1", "1")?;
-    check_start(&rt, alloc, &Kind::Greatest, 100, "100", "8")?;
-    check_start(&rt, alloc, &Kind::First, 5, "5", "1")?;
-    check_start(&rt, alloc, &Kind::Last, 5, "8", "8")?;
+    check_from(&rt, alloc, &Kind::Sum, 100, "136", "36")?;
+    check_from(&rt, alloc, &Kind::Prod, -1, "-40320", "40320")?;
+    check_from(&rt, alloc, &Kind::Least, 0, "0", "1")?;
+    check_from(&rt, alloc, &Kind::Least, 9, "1", "1")?;
+    check_from(&rt, alloc, &Kind::Greatest, 100, "100", "8")?;
+    check_from(&rt, alloc, &Kind::First, 5, "5", "1")?;
+    check_from(&rt, alloc, &Kind::Last, 5, "8", "8")?;
     let listed = "[0, 1, 2, 3, 4, 5, 6, 7, 8]";
-    check_start(
-        &rt,
-        alloc,
-        &Kind::Listed,
-        0,
-        listed,
-        "[1, 2, 3, 4, 5, 6, 7, 8]",
-    )?;
+    let without = "[1, 2, 3, 4, 5, 6, 7, 8]";
+    check_from(&rt, alloc, &Kind::Listed, 0, listed, without)?;
+    Ok(())
+}
+
+#[test]
+fn a_start_value_is_a_truth_value(rt: HostRuntime) -> Result<(), Fail> {
+    let alloc = rt.alloc();
+    let no = truths(alloc, &[false, false])?;
+    let yes = truths(alloc, &[true])?;
+    let (t, f) = ("true", "false");
+    check_start(&rt, alloc, &Kind::Any, Value::Bool(true), &no, t, f)?;
+    check_start(&rt, alloc, &Kind::Any, Value::Bool(false), &no, f, f)?;
+    check_start(&rt, alloc, &Kind::All, Value::Bool(false), &yes, f, t)?;
+    check_start(&rt, alloc, &Kind::All, Value::Bool(true), &[], t, t)?;
+    Ok(())
+}
+
+#[test]
+fn a_start_value_is_a_text(rt: HostRuntime) -> Result<(), Fail> {
+    let alloc = rt.alloc();
+    let words = texts(alloc, &["pear", "apple"])?;
+    let cases = [
+        (Kind::Least, "", "", "apple"),
+        (Kind::Greatest, "zebra", "zebra", "pear"),
+        (Kind::First, "a, b", "a, b", "pear"),
+        (Kind::Last, "x", "apple", "apple"),
+        (Kind::Listed, "", "[, pear, apple]", "[pear, apple]"),
+    ];
+    for (kind, start, with, without) in cases {
+        let start = text(alloc, start)?;
+        check_start(&rt, alloc, &kind, start, &words, with, without)?;
+    }
     Ok(())
 }
 
@@ -220,11 +258,11 @@ fn a_tower_without_inputs_has_its_text(rt: HostRuntime) -> Result<(), Fail> {
         &Kind::Listed,
         Some(Value::Int(3)),
     )?;
-    let state = fold_row(&rt, alloc, &row, of_tower(alloc, 0, Vec::new(alloc))?)?;
+    let state = fold_row(&rt, alloc, &row, Vec::new(alloc))?;
     check_text(&rt, alloc, &row, &state, "s", "0")?;
     check_text(&rt, alloc, &row, &state, "m", "nothing")?;
     check_text(&rt, alloc, &row, &state, "l", "[]")?;
-    let state = fold_with_starts(&rt, alloc, &row, of_tower(alloc, 0, Vec::new(alloc))?)?;
+    let state = fold_with_starts(&rt, alloc, &row, Vec::new(alloc), Vec::new(alloc))?;
     check_text(&rt, alloc, &row, &state, "s", "0")?;
     check_text(&rt, alloc, &row, &state, "l", "[3]")?;
     Ok(())
@@ -301,15 +339,17 @@ fn a_named_tower_prints_as_explain_writes_it(rt: HostRuntime) -> Result<(), Fail
     Ok(())
 }
 
+const REGIONS: [&str; 8] = ["r0", "r1", "r2", "r3", "r4", "r5", "r6", "r7"];
+
 /// What the loop of `try` emits for so many rows of a table of eight regions, whose numbers run from 0 to 999 again and again.
 fn emitted_by_rows(alloc: Global, rows: u32) -> Result<Vec<Emitted>, NoMemory> {
     let mut inputs = Vec::new(alloc);
     for k in 0..rows {
         let n = i64::from(k % 1000);
         let place = i64::from(k) + 1;
-        let region = format!(in alloc; "r{}", k % 8)?;
+        let region = text(alloc, REGIONS[k as usize % 8])?;
         let counted = pair(alloc, Value::Int(n), Value::Nothing)?;
-        let grouped = pair(alloc, text(alloc, region.as_str())?, counted)?;
+        let grouped = pair(alloc, region, counted)?;
         let best = pair(alloc, Value::Int(n), Value::Int(place))?;
         let worst = pair(alloc, Value::Int(n), Value::Int(place))?;
         inputs.push(Emitted {
@@ -343,16 +383,16 @@ fn row_of_try<H: Abort>(rt: &H, alloc: Global) -> Result<Row, NoMemory> {
     Ok(row)
 }
 
-const GROUPS: &str = "{r0: (1550000, 3125), r1: (1553125, 3125), r2: (1556250, 3125), \
-r3: (1559375, 3125), r4: (1562500, 3125), r5: (1565625, 3125), r6: (1568750, 3125), \
-r7: (1571875, 3125)}";
+const GROUPS: &str = "{r0: (15500000, 31250), r1: (15531250, 31250), r2: (15562500, 31250), \
+r3: (15593750, 31250), r4: (15625000, 31250), r5: (15656250, 31250), r6: (15687500, 31250), \
+r7: (15718750, 31250)}";
 
 #[test]
-fn a_hundred_thousand_inputs_of_the_row_of_try(rt: HostRuntime) -> Result<(), Fail> {
+fn a_million_inputs_of_the_row_of_try(rt: HostRuntime) -> Result<(), Fail> {
     let alloc = rt.alloc();
     let row = row_of_try(&rt, alloc)?;
-    let state = fold_row(&rt, alloc, &row, emitted_by_rows(alloc, 25000)?)?;
-    check_text(&rt, alloc, &row, &state, "total", "12487500")?;
+    let state = fold_row(&rt, alloc, &row, emitted_by_rows(alloc, 250000)?)?;
+    check_text(&rt, alloc, &row, &state, "total", "124875000")?;
     check_text(&rt, alloc, &row, &state, "groups", GROUPS)?;
     check_text(&rt, alloc, &row, &state, "best", "999 at 1000")?;
     check_text(&rt, alloc, &row, &state, "worst", "0 at 1")?;

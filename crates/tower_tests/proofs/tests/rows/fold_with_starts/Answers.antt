@@ -1,4 +1,4 @@
-use Rattle.std.proofs.Common.{List, ◌++◌, Result, Ok, Err, IfOk}
+use Rattle.std.proofs.Common.{List, ◌++◌, ◌≤◌, ◌^◌, Result, Ok, Err, IfOk, length, arith, length-append}
 use Rattle.reducer_tower.specs.declared.named.Named.{Named}
 use Rattle.reducer_tower.specs.declared.row.Emitted.{Emitted}
 use Rattle.reducer_tower.specs.declared.row.RowState.{RowState}
@@ -13,6 +13,16 @@ started : {E : Type 0} (towers : List Named) (before : List TowerState) (inputs 
 started towers before inputs (Ok state) stands starts = (starts_of towers ++ inputs, starts inputs stands)
 started towers before inputs (Err e) stands starts = tt
 
+pub with_starts-requires : goal.with_starts-requires
+with_starts-requires g c =
+    let left = c.args.left.items in
+    let right = c.args.right.items in
+    let few : length (left ++ right) ≤ 2 ^ 61 = omega (arith, length-append left right, c.in_ok-before.ensures.few, c.in_ok-after.ensures.few) in
+    (left ++ right, c.in_ok-state.ensures.stands left right c.in_ok-before.ensures.stands c.in_ok-after.ensures.stands, few)
+
 pub returns : goal.returns
 returns g c =
-    started c.args.row.now.towers.items c.in_ok-state.state.states.items c.args.inputs.items c.with_starts.result c.in_ok-state.ensures.stands c.with_starts.ensures
+    let left = c.args.left.items in
+    let right = c.args.right.items in
+    started c.args.row.now.towers.items c.in_ok-state.state.states.items (left ++ right) c.with_starts.result
+    (c.in_ok-state.ensures.stands left right c.in_ok-before.ensures.stands c.in_ok-after.ensures.stands) c.with_starts.ensures
