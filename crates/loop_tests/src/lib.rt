@@ -4,6 +4,8 @@
 #![tactic(auto)]
 
 #[cfg(test)]
+mod blocks;
+#[cfg(test)]
 mod breaks;
 #[cfg(test)]
 mod faults;
@@ -12,12 +14,18 @@ mod heads;
 #[cfg(test)]
 mod inner_heads;
 #[cfg(test)]
+mod items;
+#[cfg(test)]
 mod reducers;
 #[cfg(test)]
 mod run;
 #[cfg(test)]
 mod scratches;
 #[cfg(test)]
+mod shown;
+#[cfg(test)]
 mod skips;
 #[cfg(test)]
 mod statements;
+#[cfg(test)]
+mod steps;
