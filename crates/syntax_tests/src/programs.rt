@@ -25,91 +25,95 @@ fn refusal(alloc: Global, text: &[u8]) -> Option<SyntaxRefusal> {
     read_program(alloc, text).err()
 }
 
+/// A text and why it is refused.
+type Refused = (&'static [u8], SyntaxRefusal);
+
+static REFUSED: [Refused; 24] = [
+    (
+        b"for x in 1:3\nfoo\nend",
+        SyntaxRefusal::NotALine { line: 2 },
+    ),
+    (b"", SyntaxRefusal::BadNesting { line: 1 }),
+    (b"for x in 1:3", SyntaxRefusal::BadNesting { line: 2 }),
+    (b"\xff", SyntaxRefusal::NotUtf8 { byte: 1 }),
+    (
+        b"var k = 9223372036854775808",
+        SyntaxRefusal::NumberTooWide { line: 1 },
+    ),
+    (
+        b"var k = -9223372036854775809",
+        SyntaxRefusal::NumberTooWide { line: 1 },
+    ),
+    (
+        b"for x in (9223372036854775808):3\nend",
+        SyntaxRefusal::NumberTooWide { line: 1 },
+    ),
+    (
+        b"for x in -(9223372036854775808):3\nend",
+        SyntaxRefusal::NumberTooWide { line: 1 },
+    ),
+    (
+        b"for x in 2 - 9223372036854775808:3\nend",
+        SyntaxRefusal::NumberTooWide { line: 1 },
+    ),
+    // A line that spells nothing, with a number that is too wide.
+    (
+        b"var k = 9223372036854775808 9",
+        SyntaxRefusal::NotALine { line: 1 },
+    ),
+    // A line of the file that is bad by itself comes before a bad nesting above it.
+    (b"end\nfoo", SyntaxRefusal::NotALine { line: 2 }),
+    // The earlier of two.
+    (
+        b"for x in 1:3\n\nlet y = 9223372036854775808\n\n\n\nfoo bar\nend",
+        SyntaxRefusal::NumberTooWide { line: 3 },
+    ),
+    (
+        b"for x in 1:3\nelse\nend",
+        SyntaxRefusal::BadNesting { line: 2 },
+    ),
+    (
+        b"for x in 1:3\nif x > 1\nelse\nelseif x > 2\nend\nend",
+        SyntaxRefusal::BadNesting { line: 4 },
+    ),
+    (
+        b"for x in 1:3\n@reduce s += x\n@init b = 0\nend",
+        SyntaxRefusal::BadNesting { line: 3 },
+    ),
+    (
+        b"for x in 1:3\nend\nend",
+        SyntaxRefusal::BadNesting { line: 3 },
+    ),
+    (
+        b"for x in 1:3\nend\nvar k = 1",
+        SyntaxRefusal::BadNesting { line: 3 },
+    ),
+    (b"var t = \"a\\x\"", SyntaxRefusal::NotALine { line: 1 }),
+    (b"var t = \"a", SyntaxRefusal::NotALine { line: 1 }),
+    (
+        b"for x in 1:3\nend\r\r\n",
+        SyntaxRefusal::NotALine { line: 2 },
+    ),
+    (b"for (a) in 1:3\nend", SyntaxRefusal::NotALine { line: 1 }),
+    (
+        b"for p in zip(1:2)\nend",
+        SyntaxRefusal::NotALine { line: 1 },
+    ),
+    (
+        b"for x in 1:3\n@reduce s = min(x, 1)\nend",
+        SyntaxRefusal::NotALine { line: 2 },
+    ),
+    (
+        b"for x in 1:3\n@reduce g = group(1, group(2, group(3, group(4, group(5, count())))))\nend",
+        SyntaxRefusal::TooDeep { line: 2 },
+    ),
+];
+
 #[test]
 fn refused_texts(rt: HostRuntime) -> Result<(), Fail> {
     let alloc = rt.alloc();
-    let rows: [(&[u8], SyntaxRefusal); 24] = [
-        (
-            b"for x in 1:3\nfoo\nend",
-            SyntaxRefusal::NotALine { line: 2 },
-        ),
-        (b"", SyntaxRefusal::BadNesting { line: 1 }),
-        (b"for x in 1:3", SyntaxRefusal::BadNesting { line: 2 }),
-        (b"\xff", SyntaxRefusal::NotUtf8 { byte: 1 }),
-        (
-            b"var k = 9223372036854775808",
-            SyntaxRefusal::NumberTooWide { line: 1 },
-        ),
-        (
-            b"var k = -9223372036854775809",
-            SyntaxRefusal::NumberTooWide { line: 1 },
-        ),
-        (
-            b"for x in (9223372036854775808):3\nend",
-            SyntaxRefusal::NumberTooWide { line: 1 },
-        ),
-        (
-            b"for x in -(9223372036854775808):3\nend",
-            SyntaxRefusal::NumberTooWide { line: 1 },
-        ),
-        (
-            b"for x in 2 - 9223372036854775808:3\nend",
-            SyntaxRefusal::NumberTooWide { line: 1 },
-        ),
-        // A line that spells nothing, with a number that is too wide.
-        (
-            b"var k = 9223372036854775808 9",
-            SyntaxRefusal::NotALine { line: 1 },
-        ),
-        // A line of the file that is bad by itself comes before a bad nesting above it.
-        (b"end\nfoo", SyntaxRefusal::NotALine { line: 2 }),
-        // The earlier of two.
-        (
-            b"for x in 1:3\n\nlet y = 9223372036854775808\n\n\n\nfoo bar\nend",
-            SyntaxRefusal::NumberTooWide { line: 3 },
-        ),
-        (
-            b"for x in 1:3\nelse\nend",
-            SyntaxRefusal::BadNesting { line: 2 },
-        ),
-        (
-            b"for x in 1:3\nif x > 1\nelse\nelseif x > 2\nend\nend",
-            SyntaxRefusal::BadNesting { line: 4 },
-        ),
-        (
-            b"for x in 1:3\n@reduce s += x\n@init b = 0\nend",
-            SyntaxRefusal::BadNesting { line: 3 },
-        ),
-        (
-            b"for x in 1:3\nend\nend",
-            SyntaxRefusal::BadNesting { line: 3 },
-        ),
-        (
-            b"for x in 1:3\nend\nvar k = 1",
-            SyntaxRefusal::BadNesting { line: 3 },
-        ),
-        (b"var t = \"a\\x\"", SyntaxRefusal::NotALine { line: 1 }),
-        (b"var t = \"a", SyntaxRefusal::NotALine { line: 1 }),
-        (
-            b"for x in 1:3\nend\r\r\n",
-            SyntaxRefusal::NotALine { line: 2 },
-        ),
-        (b"for (a) in 1:3\nend", SyntaxRefusal::NotALine { line: 1 }),
-        (
-            b"for p in zip(1:2)\nend",
-            SyntaxRefusal::NotALine { line: 1 },
-        ),
-        (
-            b"for x in 1:3\n@reduce s = min(x, 1)\nend",
-            SyntaxRefusal::NotALine { line: 2 },
-        ),
-        (
-            b"for x in 1:3\n@reduce g = group(1, group(2, group(3, group(4, group(5, count())))))\nend",
-            SyntaxRefusal::TooDeep { line: 2 },
-        ),
-    ];
-    for (text, wanted) in rows {
-        assert_eq!(rt; refusal(alloc, text), Some(wanted));
+    for (text, wanted) in &REFUSED {
+        assert_eq!(rt; refusal(alloc, *text), Some(*wanted));
     }
     Ok(())
 }
