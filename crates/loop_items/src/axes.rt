@@ -110,6 +110,7 @@ impl<'a> OpenAxis<'a> {
     }
 
     /// The value at place `k`, from 1.
+    #[inline(always)]
     pub(crate) fn item(&self, alloc: Global, k: u64) -> Result<Value, NoMemory>
         requires from { 1 ≤ k }
         requires to { k ≤ length self.now }

@@ -142,6 +142,7 @@ impl<'a> Collection<'a> {
     }
 
     /// The value at place `k`, from 1.
+    #[inline(always)]
     pub(crate) fn item(&self, alloc: Global, k: u64) -> Result<Value, NoMemory>
         requires from { 1 ≤ k }
         requires to { k ≤ length self.now }

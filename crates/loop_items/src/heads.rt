@@ -105,6 +105,7 @@ impl<'a> HeadItems<'a> {
     }
 
     /// The item at these places on the axes, from 1.
+    #[inline(always)]
     pub(crate) fn item_on(&self, alloc: Global, places: &[u64; 4]) -> Result<Value, NoMemory>
         requires { AreOnAxes self.now.lens places.now }
         ensures { IfOk result (IsItemAt self.now places.now) }
