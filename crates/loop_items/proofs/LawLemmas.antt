@@ -1,6 +1,6 @@
 -- When a head is refused, and why.
-use Rattle.std.proofs.Common.{◌≡◌, ◌≢◌, ◌≤◌, ◌<◌, ◌+◌, ◌-◌, ◌⊎◌, inl, inr, ℕ, zero, suc, Bool, true, false, List, [], ◌∷◌, ◌++◌, length, map, take, drop, get_or, Option, Some, None, refl, sym, ap, ap₂, subst, ◌∙◌, arith}
-use Rattle.std.specs.Prelude.{if◌then◌else◌, nat_lt, All, Contains, slice_get, ℤ, pos}
+use Rattle.std.proofs.Common.{◌≡◌, ◌≢◌, ◌≤◌, ◌<◌, ◌⊎◌, inl, inr, ℕ, Bool, true, false, List, [], ◌∷◌, length, map, Option, Some, None, refl, sym, ap, ap₂, subst, ◌∙◌, arith}
+use Rattle.std.specs.Prelude.{if◌then◌else◌, nat_lt, All, Contains, ℤ, pos}
 use Rattle.std.specs.Ordering.{int_eq}
 use Rattle.std.proofs.lemmas.Int.{ints}
 use Rattle.std.proofs.lemmas.Bool.Decides.{nat_tests}
@@ -8,17 +8,12 @@ use Rattle.std.proofs.lemmas.List.Elements.{All-cons, All-head, All-nil, All-tai
 use Rattle.number_ranges.specs.Ranges.{range_count}
 use Rattle.splittable.specs.Ranges.{most_items}
 use Rattle.splittable.specs.Places.{excess_of, first_excess, item_count}
-use Rattle.column_input.specs.Table.{Contents}
-use Rattle.loop_grammar.specs.declared.tree.ProgramTree.{ProgramTree}
-use Rattle.loop_grammar.specs.WellFormed.{is_well_formed}
-use Rattle.loop_meaning.specs.Counts.{all_counts, axis_count}
-use Rattle.loop_meaning.specs.Items.{Sources, all_items, axis_items, items_of, sources_of}
+use Rattle.loop_meaning.specs.Items.{all_items, axis_items, items_of, sources_of}
 use Rattle.loop_items.specs.declared.refusal.HeadRefusal.{HeadRefusal}
 use Rattle.loop_items.specs.declared.refusal.HeadRefusal.TheVariants as refused
-use Rattle.loop_items.specs.Collected.{Collection, column, head_collected, range}
-use Rattle.loop_items.specs.Fields.{joined}
-use Rattle.loop_items.specs.Laws.{AxesCountItems, HeadMayBeGoneOver, HoldsRange, IsReason, MayBeGoneOver, NoneIsRefused, RefusalsHaveReasons, RefusalsHaveTheLine, collections_of, line_of}
-use Rattle.loop_items.specs.Refusals.{axis_lens, collection_refusal, first_head_refusal, first_refusal, or_else, product_refusal}
+use Rattle.loop_items.specs.Collected.{Collection, column, range}
+use Rattle.loop_items.specs.Laws.{AxesCountItems, HoldsRange, IsReason, MayBeGoneOver, NoneIsRefused, RefusalsHaveReasons, RefusalsHaveTheLine, collections_of, line_of}
+use Rattle.loop_items.specs.Refusals.{axis_lens, collection_refusal, first_refusal, or_else, product_refusal}
 use Rattle.splittable.proofs.Excess.{shortest_excess}
 use Rattle.loop_items.proofs.Counted.{joined_counts, lists_counted, lists_many}
 use Rattle.loop_items.proofs.HeadForms.{has_axes, head_is_head}

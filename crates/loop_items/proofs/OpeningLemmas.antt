@@ -1,5 +1,5 @@
 -- Axes that are opened one after another, up to the first that is refused.
-use Rattle.std.proofs.Common.{◌≡◌, ◌≢◌, ℕ, suc, ◌+◌, ◌<◌, ◌≤◌, List, [], ◌∷◌, ◌++◌, length, map, drop, get_or, Option, Some, None, Result, Ok, Err, refl, ap, sym, ◌∙◌, add-one, append_assoc, append-nil, arith}
+use Rattle.std.proofs.Common.{◌≡◌, ℕ, suc, ◌+◌, ◌<◌, ◌≤◌, List, [], ◌∷◌, ◌++◌, length, map, drop, get_or, Option, Some, None, Result, Ok, Err, refl, ap, sym, ◌∙◌, add-one, append_assoc, append-nil}
 use Rattle.std.specs.Prelude.{IsErrAnd, flat_map}
 use Rattle.std.proofs.Math.Seq.{drop-cons}
 use Rattle.std.proofs.lemmas.List.{drop_all}
@@ -10,7 +10,6 @@ use Rattle.loop_data.specs.declared.head.Axis.TheVariants.{Zip, rolls-Zip}
 use Rattle.loop_data.specs.declared.head.Axis.TheOpen.{Axis-F as a}
 use Rattle.loop_meaning.specs.Items.{Listing, Sources, all_items, axis_items, axis_step, side_by_side}
 use Rattle.loop_items.specs.declared.refusal.HeadRefusal.{HeadRefusal}
-use Rattle.loop_items.specs.declared.refusal.HeadRefusal.TheVariants as refused
 use Rattle.loop_items.specs.Collected.{Collecting, Collection, all_collected, collected, collected_step}
 use Rattle.loop_items.specs.Opening.{AreOpen}
 use Rattle.loop_items.specs.Refusals.{collection_refusal, first_refusal, or_else, unless_refused}

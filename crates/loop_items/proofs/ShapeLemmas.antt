@@ -5,7 +5,7 @@ use Rattle.std.proofs.lemmas.Bool.Decides.{nat_tests}
 use Rattle.splittable.specs.Ranges.{most_items}
 use Rattle.splittable.specs.Places.{checked_shape, excess_of, first_excess, item_count}
 use Rattle.splittable.specs.declared.shapes.ShapeRefusal.{ShapeRefusal}
-use Rattle.splittable.specs.declared.shapes.ShapeRefusal.TheVariants.{NoAxis, TooManyAxes, TooManyItems}
+use Rattle.splittable.specs.declared.shapes.ShapeRefusal.TheVariants.{TooManyAxes, TooManyItems}
 use Rattle.column_input.specs.Table.{Contents}
 use Rattle.std.specs.FinMap.{get}
 use Rattle.loop_data.specs.declared.value.Value.{Value}

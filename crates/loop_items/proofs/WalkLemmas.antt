@@ -1,10 +1,10 @@
 -- Walks from item to item.
-use Rattle.std.proofs.Common.{◌≡◌, ℕ, zero, suc, ◌+◌, ◌-◌, ◌%◌, ◌/◌, ◌<◌, ◌≤◌, List, [], ◌∷◌, ◌++◌, length, take, drop, get_or, replicate, Some, refl, ap, sym, subst, ◌∙◌, add-one, arith}
+use Rattle.std.proofs.Common.{◌≡◌, ℕ, zero, suc, ◌+◌, ◌-◌, ◌%◌, ◌/◌, ◌<◌, ◌≤◌, List, [], ◌∷◌, ◌++◌, length, take, drop, replicate, Some, refl, ap, sym, subst, ◌∙◌, arith}
 use Rattle.std.specs.Prelude.{slice_get}
 use Rattle.std.proofs.Math.Seq.{drop-cons}
 use Rattle.std.proofs.lemmas.Option.{get_or_from_slice_get, slice_get_within}
 use Rattle.splittable.specs.Fields.{padded}
-use Rattle.splittable.specs.Places.{AreOnAxes, IsOnAxis, item_count, places_after, places_on_four}
+use Rattle.splittable.specs.Places.{AreOnAxes, item_count, places_after, places_on_four}
 use Rattle.splittable.proofs.Axes.{on_axis}
 use Rattle.splittable.proofs.Products.{item_count-ones}
 use Rattle.loop_data.specs.declared.value.Value.{Value}

@@ -1,6 +1,6 @@
 -- What an open head keeps.
 -- Source: this project's representation.
-use Rattle.std.specs.Prelude.{◌≡◌, ◌≤◌, ℕ, Bool, true, false, if◌then◌else◌, List, length, map}
+use Rattle.std.specs.Prelude.{◌≡◌, ◌≤◌, ℕ, Bool, false, if◌then◌else◌, List, length, map}
 use Rattle.loop_data.specs.declared.value.Value.{Value}
 use Rattle.loop_data.specs.declared.value.Value.TheVariants.{Tuple}
 use Rattle.loop_meaning.specs.Items.{combinations, only_axis}

@@ -1,4 +1,4 @@
-use Rattle.std.proofs.Common.{◌≤◌, ◌<◌, get_or, arith}
+use Rattle.std.proofs.Common.{arith}
 use Rattle.loop_items.proofs.Steps.{all_begin_again, last_goes_on}
 use Rattle.loop_items.proofs.walk.next_places.Goals as goal
 

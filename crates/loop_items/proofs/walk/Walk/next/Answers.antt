@@ -1,4 +1,4 @@
-use Rattle.std.proofs.Common.{◌≡◌, ◌≤◌, ◌<◌, ◌+◌, ℕ, List, length, sym, subst, ◌∙◌, arith}
+use Rattle.std.proofs.Common.{◌≤◌, ◌<◌, ◌+◌, ℕ, List, length, sym, subst, ◌∙◌, arith}
 use Rattle.loop_items.specs.WalkFields.{IsOnWay}
 use Rattle.loop_items.proofs.WalkLemmas.{on_axes, on_four, on_way, one_taken}
 use Rattle.loop_items.proofs.walk.Walk.next.Goals as goal
