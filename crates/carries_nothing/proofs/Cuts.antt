@@ -19,8 +19,8 @@ use Rattle.loop_meaning.specs.Stops.{is_stop, leftmost_from, stops}
 use Rattle.loop_meaning.specs.Stores.{start_store}
 use Rattle.loop_meaning.proofs.RunLemmas.{two_lists}
 use Rattle.carries_nothing.specs.Alike.{Alike, IsReached, IsStore, at_start, one_more}
-use Rattle.carries_nothing.specs.Laws.{LegalCarriesNothing, PartsEndAsWhole, ReachedRunsAsStart, ReachedStepsAsStart, RunsReachStores, StopsLeftmost}
-use Rattle.carries_nothing.specs.Parts.{CarriesNothing, SameRun, from_start}
+use Rattle.carries_nothing.specs.Laws.{LegalCarriesNothing, PartsEndAsWhole, PartsLeaveAlike, ReachedIsAlike, ReachedRunsAsStart, ReachedStepsAsStart, RunsReachStores, StopsLeftmost}
+use Rattle.carries_nothing.specs.Parts.{GivesSame, SameRun, from_start}
 use Rattle.carries_nothing.proofs.KeptStores.{alike_agrees, start_is_store, step_alike, step_leaves_store}
 use Rattle.carries_nothing.specs.Blocks.{Agree}
 use Rattle.carries_nothing.proofs.SameSteps.{hidden, step_same}
@@ -28,32 +28,34 @@ use Rattle.carries_nothing.proofs.SameSteps.{hidden, step_same}
 -- ---- runs that give the same
 
 same_refl : (program : ProgramTree) (run : Run) → SameRun program run run
-same_refl program run = record { emitted = refl; skipped = refl; stop = refl; store = λ n lasts. refl }
+same_refl program run = record { given = record { emitted = refl; skipped = refl; stop = refl }; store = λ n lasts. refl }
 
 -- the same step before runs that give the same
 stepped : (program : ProgramTree) (skips : Bool) (e : BodyEnd) (s t : Step) (place : ℕ) (run other : Run) → s.emitted ≡ t.emitted → Alike program s.store t.store → SameRun program run other →
     SameRun program (with_step skips e s place run) (with_step skips e t place other)
 stepped program skips end.Next s t place run other emitted alike same = record {
-  emitted = ap (λ l. l ++ run.emitted) emitted ∙ ap (λ l. t.emitted ++ l) same.emitted;
-  skipped = same.skipped;
-  stop = same.stop;
+  given = record {
+    emitted = ap (λ l. l ++ run.emitted) emitted ∙ ap (λ l. t.emitted ++ l) same.given.emitted;
+    skipped = same.given.skipped;
+    stop = same.given.stop;
+  };
   store = same.store;
 }
-stepped program skips (end.Break line) s t place run other emitted alike same = record { emitted = emitted; skipped = refl; stop = refl; store = alike }
+stepped program skips (end.Break line) s t place run other emitted alike same = record { given = record { emitted = emitted; skipped = refl; stop = refl }; store = alike }
 stepped program true (end.Fault line kind) s t place run other emitted alike same = record {
-  emitted = same.emitted;
-  skipped = ap (λ k. k + 1) same.skipped;
-  stop = same.stop;
+  given = record { emitted = same.given.emitted; skipped = ap (λ k. k + 1) same.given.skipped; stop = same.given.stop };
   store = same.store;
 }
-stepped program false (end.Fault line kind) s t place run other emitted alike same = record { emitted = emitted; skipped = refl; stop = refl; store = alike }
+stepped program false (end.Fault line kind) s t place run other emitted alike same = record { given = record { emitted = emitted; skipped = refl; stop = refl }; store = alike }
 
 -- a run, and after it runs that give the same
 followed : (program : ProgramTree) (how : PlainStop) (run more other : Run) → SameRun program more other → SameRun program (after_stop how run more) (after_stop how run other)
 followed program stop.Ran run more other same = record {
-  emitted = ap (λ l. run.emitted ++ l) same.emitted;
-  skipped = ap (λ k. run.skipped + k) same.skipped;
-  stop = same.stop;
+  given = record {
+    emitted = ap (λ l. run.emitted ++ l) same.given.emitted;
+    skipped = ap (λ k. run.skipped + k) same.given.skipped;
+    stop = same.given.stop;
+  };
   store = same.store;
 }
 followed program (stop.Break at line) run more other same = same_refl program run
@@ -96,7 +98,7 @@ module _ (program : ProgramTree) (legal : IsLegal program) where
 
   -- from two such stores a run gives the same
   runs_same : (items : List Value) (place : ℕ) (store other : Bindings) → AsStart store → AsStart other → SameRun program (loop_run program store items place) (loop_run program other items place)
-  runs_same [] place store other like also = record { emitted = refl; skipped = refl; stop = refl; store = λ n lasts. like.alike n lasts ∙ sym (also.alike n lasts) }
+  runs_same [] place store other like also = record { given = record { emitted = refl; skipped = refl; stop = refl }; store = λ n lasts. like.alike n lasts ∙ sym (also.alike n lasts) }
   runs_same (x ∷ xs) place store other like also =
       let step = body_step program store x place in
       let step_other = body_step program other x place in
@@ -107,8 +109,9 @@ module _ (program : ProgramTree) (legal : IsLegal program) where
       subst (λ e. SameRun program (with_step (skips_faults program) step.end step place (loop_run program step.store xs (place + 1))) (with_step (skips_faults program) e step_other place (loop_run program step_other.store xs (place + 1)))) done.end
       (stepped program (skips_faults program) step.end step step_other place _ _ done.emitted (λ n lasts. next.alike n lasts ∙ sym (next_other.alike n lasts)) rest)
 
-  carries_none : CarriesNothing program
-  carries_none left right place =
+  parts_same : (left right : List Value) (place : ℕ) →
+      SameRun program (from_start program (left ++ right) place) (followed_by (from_start program left place) (from_start program right (place + length left)))
+  parts_same left right place =
       let first : Run = from_start program left place in
       let whole : SameRun program (followed_by first (loop_run program first.store right (place + length left))) (followed_by first (from_start program right (place + length left))) =
       followed program first.stop first _ _ (runs_same right (place + length left) first.store (start_store program) (run_as_start left place (start_store program) start_as_start) start_as_start) in
@@ -156,10 +159,13 @@ runs_reach_stores program store is (x ∷ xs) place =
 -- ---- the laws
 
 pub legal_carries_nothing : LegalCarriesNothing
-legal_carries_nothing program legal = carries_none program legal
+legal_carries_nothing program legal left right place = (parts_same program legal left right place).given
+
+pub parts_leave_alike : PartsLeaveAlike
+parts_leave_alike program legal left right place = (parts_same program legal left right place).store
 
 -- runs that give the same end with the same inputs of each reducer
-ends_same : (program : ProgramTree) (run other : Run) → SameRun program run other → end_of_run program run ≡ end_of_run program other
+ends_same : (program : ProgramTree) (run other : Run) → GivesSame run other → end_of_run program run ≡ end_of_run program other
 ends_same program run other same = λ i. record {
   stop = same.stop i;
   inputs = map (named_among (sites_of program) (same.emitted i)) (reducers_of program);
@@ -167,7 +173,12 @@ ends_same program run other same = λ i. record {
 }
 
 pub parts_end_as_whole : PartsEndAsWhole
-parts_end_as_whole program legal left right place = ends_same program _ _ (carries_none program legal left right place)
+parts_end_as_whole program legal left right place = ends_same program _ _ (legal_carries_nothing program legal left right place)
+
+pub reached_alike : ReachedIsAlike
+reached_alike program legal store is =
+    let like = reached program legal store is in
+    (like.is_store, like.alike)
 
 pub reached_runs : ReachedRunsAsStart
 reached_runs program legal store is items place = runs_same program legal items place store (start_store program) (reached program legal store is) (start_as_start program legal)

@@ -243,9 +243,9 @@ module _ (program : ProgramTree) (legal : IsLegal program) where
       let apart = scratch_apart n scratch in
       heads_unread_at n (first_false (is_variable program n) (is_in head_names n) apart) (second_false (is_variable program n) (is_in head_names n) apart)
 
-  -- ---- rules 1 and 5: a name that no line names isn't read
+  -- ---- rules 1 and 5: a name that isn't named isn't read
 
-  -- what a name is that no line names
+  -- what a name is that isn't named
   record Unnamed (n : List ℕ) : Type 0 where
     pub variable : is_variable program n ≡ false
     pub scratch : is_scratch program n ≡ false

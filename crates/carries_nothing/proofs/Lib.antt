@@ -3,6 +3,7 @@ pub mod CarriedScratch
 pub mod CarriedVariable
 pub mod Cuts
 pub mod EntryNames
+pub mod KeptNames
 pub mod KeptStores
 pub mod LegalLemmas
 pub mod OpenPaths

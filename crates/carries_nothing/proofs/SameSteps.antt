@@ -38,7 +38,7 @@ use Rattle.carries_nothing.proofs.SameNames.{IsSure, first_false, get_inserted, 
 
 -- ---- the names of the store alone
 
-abbrev or_kept : Option Value → Option Value → Option Value
+abbrev pub or_kept : Option Value → Option Value → Option Value
 or_kept (Some v) y = Some v
 or_kept None y = y
 
@@ -46,7 +46,7 @@ cond_self : (b : Bool) (y : Option Value) → y ≡ cond b y y
 cond_self true y = refl
 cond_self false y = refl
 
-found_gives : (m n : List ℕ) (x : Option Value) (env : Bindings) → get (with_found env m x) n ≡ cond (bytes_eq n m) (or_kept x (get env n)) (get env n)
+pub found_gives : (m n : List ℕ) (x : Option Value) (env : Bindings) → get (with_found env m x) n ≡ cond (bytes_eq n m) (or_kept x (get env n)) (get env n)
 found_gives m n (Some v) env = get_inserted env m n v
 found_gives m n None env = cond_self (bytes_eq n m) (get env n)
 
@@ -164,7 +164,7 @@ module _ (program : ProgramTree) (legal : IsLegal program) where
   pub doubt : IsDoubt may may
   doubt = record { less = λ n sure. sure; placed = placed }
 
-  -- a name that no line names, or a scratch that some line assigns
+  -- a name that isn't named, or a scratch that some line assigns
   unseen : {P : Type 0} (n : List ℕ) → may n ≡ true → (is_named program n ≡ false → P) → (is_scratch program n ≡ true → is_assigned (outline_of program) n ≡ true → P) → P
   unseen {P = P} n h unnamed scratch = at (is_named program n) (is_scratch program n) (is_assigned (outline_of program) n) (not (bytes_eq n place_name)) refl refl refl h
     where

@@ -1,4 +1,4 @@
--- In a program that a text spells what lines name are names: so neither `place` nor any text that is no name.
+-- In a program that a text spells what lines bind or assign are names: so neither `place` nor any text that is no name.
 use Rattle.std.proofs.Common.{◌≡◌, ℕ, zero, suc, Bool, true, false, List, [], ◌∷◌, ◌++◌, refl, ap, sym, ◌∙◌, subst}
 use Rattle.std.proofs.Math.Dec.{eqb-suc-zero}
 use Rattle.std.specs.Prelude.{if◌then◌else◌, nat_lt, nat_le, not, ◌&&◌, ◌||◌, Option, Some, None, map, length}
@@ -263,6 +263,12 @@ module _ (n : List ℕ) (other : is_name n ≡ false) where
 and_true : (a : Bool) → (a && not false) ≡ a
 and_true true = refl
 and_true false = refl
+
+-- `place` is no name of the store
+pub place_not_stored : (program : ProgramTree) → is_well_formed program ≡ true → is_in (stored_names program) place_name ≡ false
+place_not_stored program e =
+    let names = apart place_name refl program e in
+    list_any-append (bytes_eq place_name) (names_of program.vars) (names_of program.scratch) ∙ ap (λ b. b || is_in (names_of program.scratch) place_name) names.vars ∙ names.scratch
 
 pub spelled_names_last : SpelledNamesLast
 spelled_names_last program e n = at (bytes_eq n place_name) refl

@@ -1,6 +1,6 @@
--- What the body of a legal loop can't tell: names that no line names, and scratches that some line assigns.
+-- What the body of a legal loop can't tell, and what its inner heads do: unseen names, ranges, and what an item leaves.
 -- Source: this project.
-use Rattle.std.specs.Prelude.{◌≡◌, ℕ, Bool, not, ◌&&◌, ◌||◌, List, [], ◌∷◌}
+use Rattle.std.specs.Prelude.{◌≡◌, ℕ, Bool, not, ◌&&◌, ◌||◌, List, [], ◌∷◌, ℤ}
 use Rattle.std.specs.FinMap.{get}
 use Rattle.std.specs.Str.{bytes_eq}
 use Rattle.loop_data.specs.declared.head.Inner.{Inner}
@@ -11,11 +11,12 @@ use Rattle.legality_rules.specs.Scopes.{is_in}
 use Rattle.legality_rules.specs.Rules.{is_assigned, outline_of}
 use Rattle.loop_meaning.specs.Assigned.{assigned_by}
 use Rattle.loop_meaning.specs.declared.steps.BodyRun.{BodyRun}
+use Rattle.loop_meaning.specs.Steps.{for_item, inner_runs}
 use Rattle.loop_meaning.specs.Stores.{stored_names}
 use Rattle.carries_nothing.specs.Alike.{is_scratch}
 use Rattle.carries_nothing.specs.Blocks.{Agree}
 
--- whether some line names it: it is `place`, a name of the store, or one that a line binds or assigns
+-- whether it is `place`, of the store, bound by a head, `let` or `@keep`, or assigned; an `@reduce` line doesn't count
 abbrev pub is_named : ProgramTree → List ℕ → Bool
 is_named program n = is_in (assigned_by program) n || is_in (stored_names program) n
 
@@ -23,7 +24,8 @@ is_named program n = is_in (assigned_by program) n || is_in (stored_names progra
 abbrev pub is_assigned_scratch : ProgramTree → List ℕ → Bool
 is_assigned_scratch program n = is_scratch program n && is_assigned (outline_of program) n
 
--- Whether a body run of a legal loop can't tell what the name has: no line names it, or it is a scratch that some line assigns.
+-- Whether a body run of a legal loop can't tell what the name has: it is neither `place`, nor of the store, nor bound by a head,
+-- `let` or `@keep`, nor assigned (a reducer's is among these), or it is a scratch that some line assigns.
 abbrev pub is_unseen : ProgramTree → List ℕ → Bool
 is_unseen program n =
     (not (is_named program n) || is_assigned_scratch program n) && not (bytes_eq n place_name)
@@ -41,3 +43,11 @@ SameRanges program (head ∷ heads) =
     ((names other : Bindings) (width : ℕ) → Agree (is_unseen program) names other →
     inner_items head.range (get names) width ≡ inner_items head.range (get other) width)
     × SameRanges program heads
+
+-- what an item of one of these inner heads leaves, with all its body runs, are the names before it, but for unseen ones
+abbrev pub KeptUnder : ProgramTree → List Inner → Type 0
+KeptUnder program [] = Unit {0}
+KeptUnder program (head ∷ heads) =
+    ((run : BodyRun) (width : ℕ) (item : ℤ) → Agree (is_unseen program) run.names
+    (for_item program head.name (inner_runs program heads width) item run).names)
+    × KeptUnder program heads

@@ -17,7 +17,7 @@ use Rattle.loop_meaning.specs.Steps.{body_run, body_step}
 use Rattle.loop_meaning.specs.Stops.{leftmost_from}
 use Rattle.loop_meaning.specs.Stores.{start_store}
 use Rattle.carries_nothing.specs.Alike.{Alike, IsReached, IsStore, SameStep, is_lasting, is_scratch, is_variable}
-use Rattle.carries_nothing.specs.Bodies.{SameBody, SameRanges, is_unseen}
+use Rattle.carries_nothing.specs.Bodies.{KeptUnder, SameBody, SameRanges, is_unseen}
 use Rattle.carries_nothing.specs.Parts.{CarriesNothing, SameRun, from_start}
 use Rattle.carries_nothing.specs.Carriers.{running_sum, sometimes_written}
 
@@ -33,7 +33,7 @@ SpelledNamesLast = (program : ProgramTree) → is_well_formed program ≡ true �
     is_lasting program n
     ≡ (is_variable program n || (is_scratch program n && not (is_assigned (outline_of program) n)))
 
--- No line of it names a text that is neither a name nor `place`.
+-- A text that is neither a name nor `place` is unseen in it.
 abbrev pub OthersAreUnseen : Type 0
 OthersAreUnseen = (program : ProgramTree) → is_well_formed program ≡ true → (n : List ℕ) →
     is_name n ≡ false → bytes_eq n place_name ≡ false → is_unseen program n ≡ true
@@ -48,9 +48,14 @@ abbrev pub BodiesAreSame : Type 0
 BodiesAreSame = (program : ProgramTree) → IsLegal program → (run other : BodyRun) →
     SameBody program run other → SameBody program (body_run program run) (body_run program other)
 
--- So are its inner heads.
+-- So do the ranges of its inner heads.
 abbrev pub RangesAreSame : Type 0
 RangesAreSame = (program : ProgramTree) → IsLegal program → SameRanges program program.head.inner
+
+-- In a legal loop that a text spells each item of an inner head leaves the names before it, but for unseen ones.
+abbrev pub InnerItemsKeep : Type 0
+InnerItemsKeep = (program : ProgramTree) → IsLegal program → is_well_formed program ≡ true →
+    KeptUnder program program.head.inner
 
 -- The loop begins in a store, and a step leaves a store.
 abbrev pub StartIsStore : Type 0
@@ -64,6 +69,14 @@ StepsLeaveStores = (program : ProgramTree) (store : Bindings) (item : Value) (pl
 abbrev pub LegalCarriesNothing : Type 0
 LegalCarriesNothing = (program : ProgramTree) → IsLegal program → CarriesNothing program
 
+-- Its run over the list leaves a store that is alike with the one which the parts leave.
+abbrev pub PartsLeaveAlike : Type 0
+PartsLeaveAlike = (program : ProgramTree) → IsLegal program →
+    (left right : List Value) (place : ℕ) →
+    Alike program (from_start program (left ++ right) place).store
+    (followed_by (from_start program left place)
+    (from_start program right (place + length left))).store
+
 -- So it ends as both parts end, with the same inputs of each reducer.
 abbrev pub PartsEndAsWhole : Type 0
 PartsEndAsWhole = (program : ProgramTree) → IsLegal program →
@@ -76,6 +89,12 @@ PartsEndAsWhole = (program : ProgramTree) → IsLegal program →
 abbrev pub RunsReachStores : Type 0
 RunsReachStores = (program : ProgramTree) (store : Bindings) → IsReached program store →
     (items : List Value) (place : ℕ) → IsReached program (loop_run program store items place).store
+
+-- In a legal loop a store that is reached is a store, alike with the one in which the loop begins.
+abbrev pub ReachedIsAlike : Type 0
+ReachedIsAlike = (program : ProgramTree) → IsLegal program →
+    (store : Bindings) → IsReached program store →
+    IsStore program store × Alike program store (start_store program)
 
 -- From each store that is reached a legal loop runs as from the start.
 abbrev pub ReachedRunsAsStart : Type 0

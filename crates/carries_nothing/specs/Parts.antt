@@ -8,12 +8,15 @@ use Rattle.loop_meaning.specs.Runs.{followed_by, loop_run}
 use Rattle.loop_meaning.specs.Stores.{start_store}
 use Rattle.carries_nothing.specs.Alike.{Alike}
 
--- two runs give the same: the same pairs and the same number of skipped faults, they stop in the same way, and the stores that
--- they leave are alike
-pub record SameRun (program : ProgramTree) (run other : Run) : Type 0 where
+-- two runs give the same: the same pairs and the same number of skipped faults, and they stop in the same way
+pub record GivesSame (run other : Run) : Type 0 where
   pub emitted : run.emitted ≡ other.emitted
   pub skipped : run.skipped ≡ other.skipped
   pub stop : run.stop ≡ other.stop
+
+-- two runs are the same: they give the same, and the stores that they leave are alike
+pub record SameRun (program : ProgramTree) (run other : Run) : Type 0 where
+  pub given : GivesSame run other
   pub store : Alike program run.store other.store
 
 -- the run from the start over a list whose first item has this place
@@ -21,8 +24,8 @@ abbrev pub from_start : ProgramTree → List Value → ℕ → Run
 from_start program items place = loop_run program (start_store program) items place
 
 -- The run over a list, with one store that lives on, gives what the run over its left part gives and, where that ran to its end,
--- then the run over its right part: each from the start, and from the place of its first item.
+-- then the run over its right part: each from the start, and from the place of its first item. What stores they leave isn't asked.
 abbrev pub CarriesNothing : ProgramTree → Type 0
 CarriesNothing program = (left right : List Value) (place : ℕ) →
-    SameRun program (from_start program (left ++ right) place)
+    GivesSame (from_start program (left ++ right) place)
     (followed_by (from_start program left place) (from_start program right (place + length left)))

@@ -1,7 +1,7 @@
 //! What holds of legal loops, for readers and for callers' proofs: each function is empty, and its contract is the law.
 
 ghost use Rattle.carries_nothing.specs.Blocks.{BlocksKeepAlike};
-ghost use Rattle.carries_nothing.specs.Laws.{BodiesAreSame, LastingNamesStay, LegalCarriesNothing, OthersAreUnseen, PartsEndAsWhole, RangesAreSame, ReachedRunsAsStart, ReachedStepsAsStart, RunningSumCarries, RunningSumIsIllegal, RunsReachStores, SometimesWrittenCarries, SometimesWrittenIsIllegal, SpelledNamesLast, StartIsStore, StepsAreSame, StepsLeaveStores, StopsLeftmost};
+ghost use Rattle.carries_nothing.specs.Laws.{BodiesAreSame, InnerItemsKeep, LastingNamesStay, LegalCarriesNothing, OthersAreUnseen, PartsEndAsWhole, PartsLeaveAlike, RangesAreSame, ReachedIsAlike, ReachedRunsAsStart, ReachedStepsAsStart, RunningSumCarries, RunningSumIsIllegal, RunsReachStores, SometimesWrittenCarries, SometimesWrittenIsIllegal, SpelledNamesLast, StartIsStore, StepsAreSame, StepsLeaveStores, StopsLeftmost};
 
 /// From two body runs that agree but for names that may differ, a block none of whose paths reaches a read of one of these does
 /// the same. Where it goes on, the names that may still differ are those that aren't surely written.
@@ -9,12 +9,15 @@ pub fn blocks_keep_runs_alike()
     ensures { BlocksKeepAlike }
 {}
 
-/// The body of a legal loop does the same from names that agree but for those that it can't tell: names that no line names, and
-/// the scratches that some line assigns. So do the ranges of its inner heads. No step binds or assigns a name that lasts.
+/// The body of a legal loop does the same from names that agree but for unseen ones: those that are neither `place`, nor of the
+/// store, nor bound by a head, `let` or `@keep`, nor assigned (a reducer's is among these), and the scratches that some line assigns.
+/// So do the ranges of its inner heads. No step binds or assigns a name that lasts. Where a text spells the program, each item of
+/// an inner head leaves the names before it, but for unseen ones.
 pub fn bodies_see_nothing_carried()
     ensures bodies { BodiesAreSame }
     ensures ranges { RangesAreSame }
     ensures lasting { LastingNamesStay }
+    ensures kept { InnerItemsKeep }
 {}
 
 /// In a program that a text spells a name lasts exactly where it is an outer variable, or a scratch that no line assigns. A text
@@ -38,16 +41,19 @@ pub fn steps_from_alike_stores_are_same()
 
 /// A legal loop carries nothing. Its run from the start over a list, with one store that lives on, gives what the run from the
 /// start over the left part of any cut gives, and where that ran to its end, this followed by what the run from the start over
-/// the right part gives: the pairs, the number of skipped faults, and the end. Each part has the place of its first item.
+/// the right part gives: the pairs, the number of skipped faults, and the stop. Each part has the place of its first item. The
+/// stores that they leave are alike.
 pub fn legal_loop_carries_nothing()
     ensures parts { LegalCarriesNothing }
+    ensures stores { PartsLeaveAlike }
     ensures end { PartsEndAsWhole }
 {}
 
-/// From a store that is reached each run leaves one. From each of them a legal loop runs as it does from the start, and the step
-/// of an item emits and ends as it does from the start: what it does depends on the item and its place alone.
+/// From a store that is reached each run leaves one. In a legal loop each of them is alike with the start; from it the loop runs as
+/// it does from the start, and the step of an item emits and ends so: what it does depends on the item and its place alone.
 pub fn reached_stores_are_as_the_start()
     ensures reached { RunsReachStores }
+    ensures alike { ReachedIsAlike }
     ensures runs { ReachedRunsAsStart }
     ensures steps { ReachedStepsAsStart }
 {}
