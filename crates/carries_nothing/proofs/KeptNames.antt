@@ -25,7 +25,6 @@ use Rattle.loop_meaning.specs.Steps.{for_each, for_item, inner_runs, with_items}
 use Rattle.loop_meaning.specs.Stores.{keeping, names_of, stored_names, with_found}
 use Rattle.loop_meaning.proofs.StayLemmas.{Leaves, statement_still}
 use Rattle.carries_nothing.specs.Alike.{is_lasting, is_scratch, is_variable}
-use Rattle.carries_nothing.specs.Blocks.{Agree}
 use Rattle.carries_nothing.specs.Bodies.{KeptUnder, is_unseen}
 use Rattle.carries_nothing.specs.Laws.{InnerItemsKeep}
 use Rattle.carries_nothing.proofs.LegalLemmas.{lasting_untouched}

@@ -1,4 +1,5 @@
--- Runs that give the same, and what it is that a loop carries nothing: its run over a list is its runs over the parts of each cut.
+-- Runs that give the same, and what it is that a loop carries nothing: its run over a list gives what its runs over the parts of
+-- each cut give.
 -- Source: this project.
 use Rattle.std.specs.Prelude.{◌≡◌, ℕ, ◌+◌, List, ◌++◌, length}
 use Rattle.loop_data.specs.declared.value.Value.{Value}
