@@ -2,16 +2,13 @@
 #![tactic(auto)]
 
 use edge_io::{HostFiles, HostSink};
-use floop_run::{Status, floop_words};
+use floop_run::{Status, exit_code, floop_words};
 use std::alloc::AllocError;
+use std::env;
 use std::process::ExitCode;
-use std::{env, io};
 
 fn main(rt: HostRuntime) -> ExitCode {
-    match run(&rt) {
-        Ok(status) => ExitCode::from(status.code()),
-        Err(_) => ExitCode::from(Status::NoMemory.code()),
-    }
+    ExitCode::from(exit_code(run(&rt)))
 }
 
 /// Runs the program on its words. Where they can't be had as texts, nothing is written.
@@ -19,8 +16,7 @@ fn run(rt: &HostRuntime) -> Result<Status, AllocError> {
     let alloc = rt.alloc();
     let mut words = match env::args(rt) {
         Ok(words) => words,
-        Err(error) if error.kind() == io::ErrorKind::OutOfMemory => return Err(AllocError),
-        Err(_) => return Ok(Status::Refused),
+        Err(error) => return Ok(Status::without_words(error.kind())),
     };
     // The first is the program's own name.
     let _ = words.next();

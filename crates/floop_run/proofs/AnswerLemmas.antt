@@ -9,9 +9,9 @@ use Rattle.floop_run.specs.declared.status.Status.TheVariants as status
 use Rattle.floop_run.specs.BuiltForm.{Loop, loop_of}
 use Rattle.floop_run.specs.Items.{items_of}
 use Rattle.floop_run.specs.PlainLoop.{Run, RunEnd, ran, faulted, start_store, loop_run}
-use Rattle.floop_run.specs.Words.{loop_name}
+use Rattle.program_words.specs.Requests.{Request}
 use Rattle.floop_run.specs.TopCall.{IsAnswered}
-use Rattle.floop_run.specs.Answers.{Answer, refused, not_held, run_answer, loop_answer, built_answer, program_answer, IsTextAnswer, refused_text, read, IsFileAnswer, missing, too_long, within, IsNameAnswer, no_name, named, IsAnswer}
+use Rattle.floop_run.specs.Answers.{Answer, refused, not_held, run_answer, loop_answer, built_answer, program_answer, IsTextAnswer, refused_text, read, IsFileAnswer, missing, too_long, within, IsNameAnswer, no_name, named, IsRequestAnswer, no_request, asked, request_in, IsAnswer}
 
 -- two facts of what is given together
 pub both_ok : {X E : Type 0} (r : Result X E) (P Q R : X → Type 0) → ((x : X) → P x → Q x → R x) → IfOk r P → IfOk r Q → IfOk r R
@@ -62,9 +62,13 @@ name_missing : (name : Option (List ℕ)) (held : Held) (answer also : Answer) �
 name_missing name held answer also e no_name a = absurd (refused_not e)
 name_missing name held answer also e (named f) (named g) = missing_answer _ also (file_missing _ answer e f) g
 
+request_missing : (r : Result Request (List ℕ)) (held : Held) (answer also : Answer) → answer.status ≡ status.ReadFault → IsRequestAnswer r held answer → IsRequestAnswer r held also → also ≡ not_held
+request_missing r held answer also e no_request a = absurd (refused_not e)
+request_missing r held answer also e (asked f) (asked g) = name_missing _ held answer also e f g
+
 not_answered : (answer : Answer) → answer ≡ not_held → IsAnswered answer.status → ⊥
 not_answered answer e h = subst (λ a. IsAnswered a.status) e h
 
 -- where the answer is that of a file that isn't held, no other is given
 pub only_not_held : (words : List (List ℕ)) (held : Held) (answer : Answer) → IsAnswer words held not_held → IsAnswer words held answer → IsAnswered answer.status → ⊥
-only_not_held words held answer a b h = not_answered answer (name_missing (loop_name words) held not_held answer refl a b) h
+only_not_held words held answer a b h = not_answered answer (request_missing (request_in words) held not_held answer refl a b) h

@@ -9,9 +9,10 @@ use Rattle.edge_io.specs.Reading.{Held, read_answer, Reads}
 use Rattle.floop_run.specs.declared.answer.Output.{Output}
 use Rattle.floop_run.specs.declared.answer.OutputStop.{OutputStop}
 use Rattle.floop_run.specs.declared.answer.OutputStop.TheVariants as why
-use Rattle.floop_run.specs.Words.{loop_name}
+use Rattle.program_words.specs.Requests.{Request}
+use Rattle.floop_run.specs.Requests.{built_file}
 use Rattle.floop_run.specs.Outputs.{answer_in}
-use Rattle.floop_run.specs.Answers.{Answer, refused, not_held, words_answer, loop_file_limit, IsTextAnswer, IsFileAnswer, missing, too_long, within, IsNameAnswer, no_name, named, IsAnswer}
+use Rattle.floop_run.specs.Answers.{Answer, refused, not_held, not_built, loop_file_limit, IsTextAnswer, IsFileAnswer, missing, too_long, within, IsNameAnswer, no_name, named, IsRequestAnswer, no_request, asked, request_in, IsAnswer}
 
 -- what holds of each holds of what is there
 pub every : {A : Type 0} (o : Option A) (P : A → Type 0) → ((a : A) → P a) → IfSome o P
@@ -68,25 +69,43 @@ pub missing_read : {T : Type 0} (r : Result T ReadStop) (file : Option (List ℕ
 missing_read r None before now e h = refl
 missing_read r (Some bytes) before now e h = absurd (missing_fit r before now bytes (nat_le (length bytes) loop_file_limit) e h)
 
--- from the name's answer to the words'
-name_answer : (words : List (List ℕ)) (name : Option (List ℕ)) (held : Held) (answer : Answer) → name ≡ loop_name words → IsNameAnswer name held answer → IsAnswer words held answer
-name_answer words name held answer e a = subst (λ n. IsNameAnswer n held answer) e a
+-- from the file's answer to the name's
+pub no_name_answer : (n : Option (List ℕ)) (held : Held) (answer : Answer) → None ≡ n → answer ≡ not_built → IsNameAnswer n held answer
+no_name_answer n held answer e is = subst (λ m. IsNameAnswer m held answer) e (subst (IsNameAnswer None held) (sym is) no_name)
 
-pub no_name_answer : (words : List (List ℕ)) (held : Held) (answer : Answer) → None ≡ loop_name words → answer ≡ words_answer → IsAnswer words held answer
-no_name_answer words held answer e is = name_answer words None held answer e (subst (IsNameAnswer None held) (sym is) no_name)
+named_ok : (n : Option (List ℕ)) (name : List ℕ) (held : Held) (r : Result Output OutputStop) → Some name ≡ n → IfOk r (λ o. IsFileAnswer (get held name) (answer_in o)) →
+    IfOk r (λ o. IsNameAnswer n held (answer_in o))
+named_ok n name held (Ok o) e h = subst (λ m. IsNameAnswer m held (answer_in o)) e (named h)
+named_ok n name held (Err s) e h = h
 
-named_ok : (words : List (List ℕ)) (name : List ℕ) (held : Held) (r : Result Output OutputStop) → Some name ≡ loop_name words → IfOk r (λ o. IsFileAnswer (get held name) (answer_in o)) →
-    IfOk r (λ o. IsAnswer words held (answer_in o))
-named_ok words name held (Ok o) e h = name_answer words (Some name) held (answer_in o) e (named h)
-named_ok words name held (Err s) e h = h
+pub named_answers : (n : Option (List ℕ)) (name : List ℕ) (held : Option Held) (r : Result Output OutputStop) → Some name ≡ n →
+    IfSome held (λ h. IfOk r (λ o. IsFileAnswer (get h name) (answer_in o))) → IfSome held (λ h. IfOk r (λ o. IsNameAnswer n h (answer_in o)))
+named_answers n name held r e h = every_of held _ _ (λ f. named_ok n name f r e) h
 
-pub named_answers : (words : List (List ℕ)) (name : List ℕ) (held : Option Held) (r : Result Output OutputStop) → Some name ≡ loop_name words →
-    IfSome held (λ h. IfOk r (λ o. IsFileAnswer (get h name) (answer_in o))) → IfSome held (λ h. IfOk r (λ o. IsAnswer words h (answer_in o)))
-named_answers words name held r e h = every_of held _ _ (λ f. named_ok words name f r e) h
+pub named_missing : (n : Option (List ℕ)) (name : List ℕ) (held : Option Held) (A B : Type 0) → Some name ≡ n →
+    IfSome held (λ h. A → B → get h name ≡ None) → IfSome held (λ h. A → B → IsNameAnswer n h not_held)
+named_missing n name held A B e h =
+    every_of held _ _ (λ f missed a b. subst (λ m. IsNameAnswer m f not_held) e (named (subst (λ o. IsFileAnswer o not_held) (sym (missed a b)) missing))) h
 
-pub named_missing : (words : List (List ℕ)) (name : List ℕ) (held : Option Held) (A B : Type 0) → Some name ≡ loop_name words →
-    IfSome held (λ h. A → B → get h name ≡ None) → IfSome held (λ h. A → B → IsAnswer words h not_held)
-named_missing words name held A B e h = every_of held _ _ (λ f missed a b. name_answer words (Some name) f not_held e (named (subst (λ o. IsFileAnswer o not_held) (sym (missed a b)) missing))) h
+-- from the request's answer to the words'
+request_answer : (words : List (List ℕ)) (r : Result Request (List ℕ)) (held : Held) (answer : Answer) → request_in words ≡ r → IsRequestAnswer r held answer → IsAnswer words held answer
+request_answer words r held answer e a = subst (λ x. IsRequestAnswer x held answer) (sym e) a
+
+pub refused_answer : (words : List (List ℕ)) (text : List ℕ) (held : Held) (answer : Answer) → request_in words ≡ Err text → answer ≡ refused text → IsAnswer words held answer
+refused_answer words text held answer e is = request_answer words (Err text) held answer e (subst (IsRequestAnswer (Err text) held) (sym is) no_request)
+
+asked_ok : (words : List (List ℕ)) (request : Request) (held : Held) (r : Result Output OutputStop) → request_in words ≡ Ok request →
+    IfOk r (λ o. IsNameAnswer (built_file request) held (answer_in o)) → IfOk r (λ o. IsAnswer words held (answer_in o))
+asked_ok words request held (Ok o) e h = request_answer words (Ok request) held (answer_in o) e (asked h)
+asked_ok words request held (Err s) e h = h
+
+pub asked_answers : (words : List (List ℕ)) (request : Request) (held : Option Held) (r : Result Output OutputStop) → request_in words ≡ Ok request →
+    IfSome held (λ h. IfOk r (λ o. IsNameAnswer (built_file request) h (answer_in o))) → IfSome held (λ h. IfOk r (λ o. IsAnswer words h (answer_in o)))
+asked_answers words request held r e h = every_of held _ _ (λ f. asked_ok words request f r e) h
+
+pub asked_missing : (words : List (List ℕ)) (request : Request) (held : Option Held) (A B : Type 0) → request_in words ≡ Ok request →
+    IfSome held (λ h. A → B → IsNameAnswer (built_file request) h not_held) → IfSome held (λ h. A → B → IsAnswer words h not_held)
+asked_missing words request held A B e h = every_of held _ _ (λ f missed a b. request_answer words (Ok request) f not_held e (asked (missed a b))) h
 
 pub long_not_failed : {T : Type 0} (r : Result T ReadStop) → r ≡ Err stop.TooLong → r ≢ Err stop.Failed
 long_not_failed r e f = absurd (cc)

@@ -1,23 +1,17 @@
-ghost use Rattle.std.specs.Prelude.{◌≡◌, ◌≢◌, ◌≤◌, None, Err, IfOk, IfSome, IsSome, length, string_bytes};
-ghost use Rattle.std.specs.FinMap.{get};
-ghost use Rattle.edge_io.specs.Faults.{Rose};
-ghost use Rattle.loop_grammar.specs.declared.refusal.SyntaxRefusal.TheVariants as syntax;
-ghost use Rattle.loop_grammar.specs.RefusalTexts.{syntax_text};
-ghost use Rattle.floop_run.specs.Answers.{IsAnswer, IsFileAnswer, IsTextAnswer, words_answer, not_held, program_answer, loop_answer, loop_file_limit, refused};
-ghost use Rattle.floop_run.specs.BuiltForm.{IsBuilt};
-ghost use Rattle.floop_run.specs.BuiltViews.{loop_seen};
-ghost use Rattle.floop_run.specs.TopCall.{texts, IsAnswered};
-ghost use Rattle.floop_run.specs.Outputs.{answer_in};
-ghost use Rattle.floop_run.specs.Words.{loop_name};
+//! The output of a call: its status and its lines, from the words and what files hold.
 
 use crate::Status;
-use crate::form::{BuiltLoop, loop_of};
-use crate::run::sum_items;
-use crate::words::loop_name;
+use crate::accepted::accepted_output;
+use crate::data::data_names;
+use crate::results::run_output;
+use column_input::Table;
+use data_files::{DataStop, read_data};
 use edge_io::{Files, NoMemory, ReadStop};
-use loop_grammar::ProgramTree;
-use loop_syntax::{SyntaxRefusal, read_program};
-use std::alloc::Global;
+use legality_check::{LegalProgram, LegalRefusal, check_program};
+use loop_items::{HeadItems, HeadRefusal};
+use loop_syntax::{Program, SyntaxRefusal, read_program};
+use program_words::{Call, Command, Refusal, Request, Setting, request_of};
+use std::alloc::{AllocError, Global};
 
 /// The most bytes of a loop file.
 const LOOP_FILE_LIMIT: u64 = 65536;
@@ -28,7 +22,7 @@ pub struct Output {
     /// The call's status, where the lines are written.
     pub status: Status,
     /// The lines in order, each with its LF.
-    pub lines: Vec<String>,
+    pub lines: Vec<Vec<u8>>,
 }
 
 /// Why there is no output.
@@ -38,6 +32,17 @@ pub enum OutputStop {
     ReadFault,
     /// Memory ran out.
     NoMemory,
+}
+
+impl From<AllocError> for OutputStop {
+    ghost use Rattle.std.specs.Prelude.{◌≡◌};
+    ghost use Rattle.floop_run.specs.declared.answer.OutputStop.TheVariants.{NoMemory};
+
+    ghost from_gives = { λ _ e. e ≡ NoMemory };
+
+    fn from(_error: AllocError) -> OutputStop {
+        OutputStop::NoMemory
+    }
 }
 
 impl From<NoMemory> for OutputStop {
@@ -56,33 +61,29 @@ pub fn output_for<F: Files>(
     alloc: Global,
     words: &[String],
     files: &mut F,
-) -> Result<Output, OutputStop>
-    ensures output { IfSome (F.held files.old) (λ held. IfOk result (λ o. IsAnswer (texts words.now) held (answer_in o))) }
-    ensures words { loop_name (texts words.now) ≡ None → IfOk result (λ o. answer_in o ≡ words_answer) }
-    ensures answered { IfOk result (λ o. IsAnswered o.status) }
-    ensures read_fault_words { result ≡ Err OutputStop.ReadFault → IsSome (loop_name (texts words.now)) }
-    ensures read_fault { IfSome (F.held files.old) (λ held.
-        (Rose (F.faults files.old) (F.faults files.new) → ⊥) → result ≡ Err OutputStop.ReadFault →
-        IsAnswer (texts words.now) held not_held) }
-    ensures held { F.held files.new ≡ F.held files.old }
-{
-    match loop_name(words) {
-        Some(name) => named_output(alloc, name, files),
-        None => Ok(refusal(alloc, "form not built")?),
+) -> Result<Output, OutputStop> {
+    match request_of(Call::Direct, words) {
+        Ok(request) => loop_output(alloc, &request, files),
+        Err(why) => Ok(words_output(alloc, why)?),
     }
 }
 
-/// The output for the name of the loop file.
-fn named_output<F: Files>(alloc: Global, name: &str, files: &mut F) -> Result<Output, OutputStop>
-    ensures output { IfSome (F.held files.old) (λ held. IfOk result (λ o. IsFileAnswer (get held name.now) (answer_in o))) }
-    ensures answered { IfOk result (λ o. IsAnswered o.status) }
-    ensures read_fault { IfSome (F.held files.old) (λ held.
-        (Rose (F.faults files.old) (F.faults files.new) → ⊥) → result ≡ Err OutputStop.ReadFault → get held name.now ≡ None) }
-    ensures held { F.held files.new ≡ F.held files.old }
-{
+/// The output for words that are no request.
+fn words_output(alloc: Global, why: Refusal<'_>) -> Result<Output, NoMemory> {
+    let text = format!(in alloc; "{why}")?;
+    refusal(alloc, text.as_str())
+}
+
+/// The output for a request, by its loop file.
+fn loop_output<F: Files>(
+    alloc: Global,
+    request: &Request<'_>,
+    files: &mut F,
+) -> Result<Output, OutputStop> {
+    let name = request.value(Setting::Loop).unwrap_or("");
     let mut bytes = Vec::new(alloc);
     match files.read_named(alloc, name, LOOP_FILE_LIMIT, &mut bytes) {
-        Ok(()) => Ok(file_output(alloc, &bytes)?),
+        Ok(()) => text_output(alloc, request, &bytes, files),
         Err(ReadStop::TooLong) => Ok(refusal(alloc, "loop file: over 65536 bytes")?),
         Err(ReadStop::NoMemory) => Err(OutputStop::NoMemory),
         Err(ReadStop::NotHeld) => Err(OutputStop::ReadFault),
@@ -91,72 +92,97 @@ fn named_output<F: Files>(alloc: Global, name: &str, files: &mut F) -> Result<Ou
 }
 
 /// A refusal is one line.
-fn refusal(alloc: Global, text: &str) -> Result<Output, NoMemory>
-    ensures { IfOk result (λ o. answer_in o ≡ refused text.now) }
-{
+pub(crate) fn refusal(alloc: Global, text: &str) -> Result<Output, NoMemory> {
     let line = format!(in alloc; "{text}\n")?;
     one_line(alloc, Status::Refused, line)
 }
 
-/// The output for the bytes of the loop file.
-fn file_output(alloc: Global, bytes: &[u8]) -> Result<Output, NoMemory>
-    requires { length bytes.now ≤ loop_file_limit }
-    ensures answer { IfOk result (λ o. IsTextAnswer bytes.now (answer_in o)) }
-    ensures answered { IfOk result (λ o. IsAnswered o.status) }
-{
-    match read_program(alloc, bytes) {
-        Ok(program) => program_output(alloc, program.tree()),
-        Err(refusal) => syntax_output(alloc, refusal),
-    }
-}
-
-/// What a refusal of the loop file's text is called, which want of memory is not.
-fn syntax_text(alloc: Global, why: SyntaxRefusal) -> Result<String, NoMemory>
-    ensures text { IfOk result (λ t. string_bytes t ≡ syntax_text why) }
-    ensures memory { IfOk result (λ _. why ≢ syntax.NoMemory) }
-{
-    match why {
-        SyntaxRefusal::NoMemory => Err(NoMemory),
-        _ => Ok(format!(in alloc; "{why}")?),
-    }
-}
-
-/// The output for a loop file that spells no program.
-fn syntax_output(alloc: Global, why: SyntaxRefusal) -> Result<Output, NoMemory>
-    ensures answer { IfOk result (λ o. answer_in o ≡ refused (syntax_text why)) }
-    ensures memory { IfOk result (λ _. why ≢ syntax.NoMemory) }
-    ensures answered { IfOk result (λ o. IsAnswered o.status) }
-{
-    let text = syntax_text(alloc, why)?;
-    refusal(alloc, text.as_str())
-}
-
-/// The output of a program, which is its sum where it is of the form that runs.
-fn program_output(alloc: Global, program: &ProgramTree) -> Result<Output, NoMemory>
-    ensures answer { IfOk result (λ o. answer_in o ≡ program_answer program.now) }
-    ensures answered { IfOk result (λ o. IsAnswered o.status) }
-{
-    match loop_of(program) {
-        Some(built) => loop_output(alloc, &built),
-        None => refusal(alloc, "form not built"),
-    }
-}
-
-/// The output of the loop, which is its sum.
-fn loop_output(alloc: Global, built: &BuiltLoop<'_>) -> Result<Output, NoMemory>
-    requires { IsBuilt (loop_seen built.now) }
-    ensures answer { IfOk result (λ o. answer_in o ≡ loop_answer (loop_seen built.now)) }
-    ensures answered { IfOk result (λ o. IsAnswered o.status) }
-{
-    let sum = sum_items(alloc, built)?;
-    let line = format!(in alloc; "{sum}\n")?;
-    one_line(alloc, Status::Done, line)
-}
-
 /// An output of one line.
-fn one_line(alloc: Global, status: Status, line: String) -> Result<Output, NoMemory>
-    ensures { IfOk result (λ o. answer_in o ≡ record { status = status; text = string_bytes line }) }
-{
-    let lines = vec![in alloc; line]?;
+pub(crate) fn one_line(alloc: Global, status: Status, line: String) -> Result<Output, NoMemory> {
+    let lines = vec![in alloc; line.into_bytes()]?;
     Ok(Output { status, lines })
+}
+
+/// The output for the bytes of the loop file.
+fn text_output<F: Files>(
+    alloc: Global,
+    request: &Request<'_>,
+    bytes: &[u8],
+    files: &mut F,
+) -> Result<Output, OutputStop> {
+    match read_program(alloc, bytes) {
+        Ok(program) => program_output(alloc, request, program, files),
+        Err(SyntaxRefusal::NoMemory) => Err(OutputStop::NoMemory),
+        Err(why) => {
+            let text = format!(in alloc; "{why}")?;
+            Ok(refusal(alloc, text.as_str())?)
+        }
+    }
+}
+
+/// The output for a program.
+fn program_output<F: Files>(
+    alloc: Global,
+    request: &Request<'_>,
+    program: Program,
+    files: &mut F,
+) -> Result<Output, OutputStop> {
+    match check_program(alloc, program) {
+        Ok(legal) => legal_output(alloc, request, &legal, files),
+        Err(LegalRefusal::NoMemory) => Err(OutputStop::NoMemory),
+        Err(LegalRefusal::Illegal(offence)) => {
+            let text = format!(in alloc; "{offence}")?;
+            Ok(refusal(alloc, text.as_str())?)
+        }
+    }
+}
+
+/// The output for a legal program, by its data files.
+fn legal_output<F: Files>(
+    alloc: Global,
+    request: &Request<'_>,
+    legal: &LegalProgram,
+    files: &mut F,
+) -> Result<Output, OutputStop> {
+    let names = data_names(alloc, request)?;
+    match read_data(alloc, &names, files) {
+        Ok(table) => Ok(table_output(alloc, request.command, legal, &table)?),
+        Err(DataStop::NoMemory) => Err(OutputStop::NoMemory),
+        Err(DataStop::NotHeld) => Err(OutputStop::ReadFault),
+        Err(DataStop::Failed) => Err(OutputStop::ReadFault),
+        Err(DataStop::Refused(why)) => {
+            let text = format!(in alloc; "{why}")?;
+            Ok(refusal(alloc, text.as_str())?)
+        }
+    }
+}
+
+/// The output for a legal program over its table, by its first head.
+fn table_output(
+    alloc: Global,
+    command: Command,
+    legal: &LegalProgram,
+    table: &Table,
+) -> Result<Output, NoMemory> {
+    match HeadItems::open(alloc, legal.program(), table) {
+        Ok(head) => command_output(alloc, command, legal, &head),
+        Err(HeadRefusal::NoMemory) => Err(NoMemory),
+        Err(why) => {
+            let text = format!(in alloc; "{why}")?;
+            refusal(alloc, text.as_str())
+        }
+    }
+}
+
+/// What the command writes of a loop that isn't refused.
+fn command_output(
+    alloc: Global,
+    command: Command,
+    legal: &LegalProgram,
+    head: &HeadItems<'_>,
+) -> Result<Output, NoMemory> {
+    match command {
+        Command::Check => accepted_output(alloc, legal, head),
+        Command::Run => run_output(alloc, legal, head),
+    }
 }

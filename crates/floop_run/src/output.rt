@@ -28,9 +28,9 @@ impl From<NoMemory> for WriteStop {
 
 /// Writes the lines, each by one put, after room was made for all of them. After the first put that fails nothing
 /// more is put.
-pub fn write_lines<K: Sink>(alloc: Global, out: &mut K, lines: &[String]) -> Result<(), WriteStop>
+pub fn write_lines<K: Sink>(alloc: Global, out: &mut K, lines: &[Vec<u8>]) -> Result<(), WriteStop>
     ensures written { OnOk result (Puts (K.written out.old) (K.written out.new) (joined lines.now)) }
-    ensures not_failed { OnOk result (K.faults out.new ≡ K.faults out.old) }
+    ensures kept { result ≢ Err WriteStop.Failed → K.faults out.new ≡ K.faults out.old }
     ensures prefix { result ≡ Err WriteStop.Failed → PutsPrefix (K.written out.old) (K.written out.new) (joined lines.now) }
     ensures failed { result ≡ Err WriteStop.Failed → Rose (K.faults out.old) (K.faults out.new) }
     ensures no_memory { result ≡ Err WriteStop.NoMemory → K.written out.new ≡ K.written out.old }
@@ -46,7 +46,7 @@ pub fn write_lines<K: Sink>(alloc: Global, out: &mut K, lines: &[String]) -> Res
 }
 
 /// How many bytes the lines have together.
-fn total_length(lines: &[String]) -> Option<u64>
+fn total_length(lines: &[Vec<u8>]) -> Option<u64>
     ensures { IfSome result (λ n. n ≡ length (joined lines.now)) }
 {
     let mut total: u64 = 0;
@@ -57,7 +57,7 @@ fn total_length(lines: &[String]) -> Option<u64>
 }
 
 /// Puts the lines, for which there must be room, until a put fails.
-fn put_lines<K: Sink>(out: &mut K, lines: &[String]) -> Result<(), SinkFailed>
+fn put_lines<K: Sink>(out: &mut K, lines: &[Vec<u8>]) -> Result<(), SinkFailed>
     requires { length (joined lines.now) ≤ K.room out.old }
     ensures written { OnOk result (Puts (K.written out.old) (K.written out.new) (joined lines.now)) }
     ensures not_failed { OnOk result (K.faults out.new ≡ K.faults out.old) }
@@ -65,7 +65,7 @@ fn put_lines<K: Sink>(out: &mut K, lines: &[String]) -> Result<(), SinkFailed>
     ensures failed { OnErr result (Rose (K.faults out.old) (K.faults out.new)) }
 {
     for line in lines {
-        out.put(line.as_bytes())?;
+        out.put(line.as_slice())?;
     }
     Ok(())
 }

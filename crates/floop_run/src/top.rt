@@ -1,10 +1,10 @@
-ghost use Rattle.std.specs.Prelude.{◌≡◌, ◌≢◌, None, IfSome, IsSome};
+ghost use Rattle.std.specs.Prelude.{◌≡◌, ◌≢◌, IfErr, IfSome, IsOk};
 ghost use Rattle.edge_io.specs.Faults.{Rose};
-ghost use Rattle.edge_io.specs.Writing.{PutsPrefix};
-ghost use Rattle.floop_run.specs.Answers.{IsAnswer, words_answer, not_held};
-ghost use Rattle.floop_run.specs.TopCall.{texts, Gives, GivesAnswer, PutsAnswerPrefix, IsAnswered};
+ghost use Rattle.program_words.specs.Words.{texts};
+ghost use Rattle.floop_run.specs.Answers.{IsAnswer, refused, not_held};
+ghost use Rattle.floop_run.specs.Requests.{request_in};
+ghost use Rattle.floop_run.specs.TopCall.{Gives, GivesAnswer, PutsPrefixOf, PutsAnswerPrefix, IsAnswered};
 ghost use Rattle.floop_run.specs.Outputs.{answer_in};
-ghost use Rattle.floop_run.specs.Words.{loop_name};
 
 use crate::Status;
 use crate::answer::{Output, OutputStop, output_for};
@@ -14,8 +14,9 @@ use std::alloc::Global;
 
 /// Runs the program on its words.
 ///
-/// The words are `run` and `loop=NAME`, NAME being the name of a loop file of at most 65,536 bytes. The loop is run and
-/// its result written, or the reason why it is refused; each line by one put, with its LF.
+/// The words are a command and its settings, as `program_words` reads them. Served is `run` with `loop=NAME`, NAME being the name of
+/// a loop file of at most 65,536 bytes: the loop is run and its result written, or the reason why it is refused; each line by one
+/// put, with its LF. Another request is answered `form not built`.
 ///
 /// The clauses tie the status and what was written to the answer, `IsAnswer` in specs/Answers, of which there is just one:
 ///
@@ -35,17 +36,19 @@ pub fn floop_words<F: Files, K: Sink>(
         (Rose (F.faults files.old) (F.faults files.new) → ⊥) → (Rose (K.faults out.old) (K.faults out.new) → ⊥) → result ≢ Status.NoMemory →
         GivesAnswer (texts words.now) held result (K.written out.old) (K.written out.new)) }
 
-    // Words that name no loop file are refused, whatever files tell.
-    ensures words_refused { loop_name (texts words.now) ≡ None →
+    // Words that are no request are refused, whatever files tell; where the sink fails, a prefix of their text is left.
+    ensures words_refused { IfErr (request_in (texts words.now)) (λ text.
         (Rose (K.faults out.old) (K.faults out.new) → ⊥) → result ≢ Status.NoMemory →
-        Gives words_answer result (K.written out.old) (K.written out.new) }
+        Gives (refused text) result (K.written out.old) (K.written out.new)) }
+    ensures words_prefix { IfErr (request_in (texts words.now)) (λ text. result ≡ Status.WriteFault →
+        PutsPrefixOf (refused text) (K.written out.old) (K.written out.new)) }
 
     // Done, LoopFault and Refused come only as the answer, also where a count rose.
     ensures answered { IfSome (F.held files.old) (λ held.
         IsAnswered result → GivesAnswer (texts words.now) held result (K.written out.old) (K.written out.new)) }
 
     // ReadFault comes only after accepted words, and where no read failed exactly where the answer says so.
-    ensures read_fault_words { result ≡ Status.ReadFault → IsSome (loop_name (texts words.now)) }
+    ensures read_fault_words { result ≡ Status.ReadFault → IsOk (request_in (texts words.now)) }
     ensures read_fault { IfSome (F.held files.old) (λ held.
         (Rose (F.faults files.old) (F.faults files.new) → ⊥) → result ≡ Status.ReadFault →
         IsAnswer (texts words.now) held not_held) }
@@ -61,6 +64,10 @@ pub fn floop_words<F: Files, K: Sink>(
 
     // Want of memory may come at any place before the first put.
     ensures no_memory { result ≡ Status.NoMemory → K.written out.new ≡ K.written out.old }
+
+    // A count of faults rises nowhere else: nothing is put after a failed put, and no failed read is passed over.
+    ensures files_kept { result ≢ Status.ReadFault → F.faults files.new ≡ F.faults files.old }
+    ensures sink_kept { result ≢ Status.WriteFault → K.faults out.new ≡ K.faults out.old }
 
     // The call changes no file.
     ensures held { F.held files.new ≡ F.held files.old }
@@ -78,7 +85,8 @@ fn give<K: Sink>(alloc: Global, out: &mut K, output: &Output) -> Status
     ensures given { IsAnswered result → Gives (answer_in output.now) result (K.written out.old) (K.written out.new) }
     ensures cases { result ≢ Status.WriteFault → result ≢ Status.NoMemory → IsAnswered result }
     ensures write_fault { result ≡ Status.WriteFault → Rose (K.faults out.old) (K.faults out.new) }
-    ensures prefix { result ≡ Status.WriteFault → PutsPrefix (K.written out.old) (K.written out.new) (answer_in output.now).text }
+    ensures prefix { result ≡ Status.WriteFault → PutsPrefixOf (answer_in output.now) (K.written out.old) (K.written out.new) }
+    ensures kept { result ≢ Status.WriteFault → K.faults out.new ≡ K.faults out.old }
     ensures no_memory { result ≡ Status.NoMemory → K.written out.new ≡ K.written out.old }
 {
     match write_lines(alloc, out, &output.lines) {

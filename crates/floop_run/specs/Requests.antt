@@ -1,0 +1,29 @@
+-- What a request asks of the program.
+-- Source: this project.
+use Rattle.std.specs.Prelude.{ℕ, List, [], unwrap_or, Option, Some, None, Result}
+use Rattle.program_words.specs.declared.command.Call.TheVariants as call
+use Rattle.program_words.specs.declared.setting.Setting.{Setting}
+use Rattle.program_words.specs.declared.setting.Setting.TheVariants as setting
+use Rattle.program_words.specs.Settings.{setting_name, names_in}
+use Rattle.program_words.specs.Words.{value_in}
+use Rattle.program_words.specs.Requests.{Request, request_of}
+
+-- what the words are to the program's call
+abbrev pub request_in : List (List ℕ) → Result Request (List ℕ)
+request_in words = request_of call.Direct words
+
+-- the value that a request gives to a setting, if it gives one
+abbrev pub value_of : Setting → Request → Option (List ℕ)
+value_of s r = value_in (setting_name s) r.settings
+
+-- the loop file's name, which each command must be given
+abbrev pub loop_file : Request → List ℕ
+loop_file r = unwrap_or (value_of setting.Loop r) []
+
+abbrev pub names_of : Option (List ℕ) → List (List ℕ)
+names_of None = []
+names_of (Some value) = names_in value
+
+-- the names of the data files, in order; where the setting isn't given there are none, and the table is that of no file
+abbrev pub data_names : Request → List (List ℕ)
+data_names r = names_of (value_of setting.Data r)

@@ -1,0 +1,12 @@
+pub mod Collected
+pub mod Refusals
+pub mod RefusalTexts
+pub mod Heads
+pub mod Walks
+pub mod Places
+pub mod Opening
+pub mod Held
+pub mod Parts
+pub mod Fields
+pub mod WalkFields
+pub mod Laws

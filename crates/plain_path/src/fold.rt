@@ -1,0 +1,105 @@
+//! The plain loop folded into a row.
+
+use loop_data::Many;
+use loop_items::HeadItems;
+use loop_meaning::{BodyEnd, Emitted, start_store, step_plain};
+use loop_syntax::Program;
+use loop_values::Env;
+use no_memory::NoMemory;
+use reducer_laws::Reducer;
+use reducer_tower::{Emitted as Input, Row, RowState};
+use std::alloc::Global;
+
+/// How the plain loop ended.
+#[derive(Drop)]
+pub enum PathEnd {
+    /// It ran to its end, or broke: the states with the start values, and how many faults were skipped.
+    Done { state: RowState, skipped: u64 },
+    /// The item at this place faulted on this line. Places and lines count from 1; the kind is from 1 to 5.
+    Faulted { at: u64, line: u32, kind: u8 },
+}
+
+/// A run in the middle: its store, what the row's states stand for, and how many faults were skipped.
+#[derive(Drop)]
+struct Walked {
+    store: Env,
+    state: RowState,
+    skipped: u64,
+}
+
+/// The states with these pairs, each for the reducer of its name.
+fn add_all(
+    alloc: Global,
+    row: &Row,
+    state: &mut RowState,
+    emitted: Many<Emitted>,
+) -> Result<(), NoMemory> {
+    for pair in emitted.into_vec() {
+        let Emitted { name, input } = pair;
+        if let Some(tower) = row.tower(name.as_str()) {
+            row.next(
+                alloc,
+                state,
+                Input {
+                    tower,
+                    value: input,
+                },
+            )?;
+        }
+    }
+    Ok(())
+}
+
+/// How the step of the item at this place ended; what counts of what it emitted is in the states.
+fn step_at(
+    alloc: Global,
+    program: &Program,
+    head: &HeadItems<'_>,
+    row: &Row,
+    place: u64,
+    walked: &mut Walked,
+) -> Result<BodyEnd, NoMemory> {
+    let item = head.item(alloc, place)?;
+    let mut emitted = Many::new(alloc);
+    let end = step_plain(alloc, program, &mut walked.store, item, place, &mut emitted)?;
+    if program.skips_faults() && matches!(end, BodyEnd::Fault { .. }) {
+        walked.skipped += 1;
+        return Ok(BodyEnd::Next);
+    }
+    add_all(alloc, row, &mut walked.state, emitted)?;
+    Ok(end)
+}
+
+/// The run's end, with the start values in its states.
+fn done(alloc: Global, row: &Row, walked: Walked) -> Result<PathEnd, NoMemory> {
+    let Walked {
+        store: _,
+        state,
+        skipped,
+    } = walked;
+    let state = row.with_starts(alloc, state)?;
+    Ok(PathEnd::Done { state, skipped })
+}
+
+/// The plain loop of a program over the items of its head, from place 1, folded into the row of its reducers.
+pub fn fold_plain(
+    alloc: Global,
+    program: &Program,
+    head: &HeadItems<'_>,
+    row: &Row,
+) -> Result<PathEnd, NoMemory> {
+    let mut walked = Walked {
+        store: start_store(alloc, program)?,
+        state: row.unit(alloc)?,
+        skipped: 0,
+    };
+    for before in 0..head.count() {
+        let at = before + 1;
+        match step_at(alloc, program, head, row, at, &mut walked)? {
+            BodyEnd::Next => {}
+            BodyEnd::Break { line: _ } => return done(alloc, row, walked),
+            BodyEnd::Fault { line, kind } => return Ok(PathEnd::Faulted { at, line, kind }),
+        }
+    }
+    done(alloc, row, walked)
+}
