@@ -15,12 +15,14 @@ use Rattle.legality_rules.specs.Offences.{first_offence}
 use Rattle.legality_rules.specs.RefusalTexts.{offence_text}
 use Rattle.column_input.specs.Table.{Contents}
 use Rattle.data_files.specs.declared.stop.DataStop.{DataStop}
-use Rattle.data_files.specs.declared.stop.DataStop.TheVariants as data
+use Rattle.data_files.specs.declared.stop.DataStop.TheVariants as reading
 use Rattle.data_files.specs.Tables.{data_table}
 use Rattle.data_files.specs.Texts.{data_text}
 use Rattle.loop_items.specs.declared.refusal.HeadRefusal.{HeadRefusal}
 use Rattle.loop_items.specs.Refusals.{first_head_refusal}
 use Rattle.loop_items.specs.RefusalTexts.{refusal_text}
+use Rattle.loop_data.specs.declared.value.Value.{Value}
+use Rattle.loop_meaning.specs.Items.{items_of}
 use Rattle.loop_meaning.specs.declared.runs.Run.{Run}
 use Rattle.loop_meaning.specs.declared.runs.PlainStop.{PlainStop}
 use Rattle.loop_meaning.specs.declared.runs.PlainStop.TheVariants as stop
@@ -60,22 +62,22 @@ ended_answer program run (stop.Fault at in_line kind) = record { status = status
 abbrev pub run_answer : ProgramTree → Run → Answer
 run_answer program run = ended_answer program run run.stop
 
--- what the command writes of a legal program over a table on which its head isn't refused
-abbrev pub command_answer : Command → ProgramTree → Contents → Answer
-command_answer command.Check program table = done (accepted_text program table)
-command_answer command.Run program table = run_answer program (whole_run program table)
+-- what the command writes of a legal program over its items
+abbrev pub command_answer : Command → ProgramTree → List Value → Answer
+command_answer command.Check program items = done (accepted_text program items)
+command_answer command.Run program items = run_answer program (whole_run program items)
 
 -- ---- refusals, in their order
 
 -- the head's first refusal, of its collections from left to right and then of its product; else what the command writes
 abbrev pub head_answer : Option HeadRefusal → Command → ProgramTree → Contents → Answer
 head_answer (Some why) asked program table = refused (refusal_text why)
-head_answer None asked program table = command_answer asked program table
+head_answer None asked program table = command_answer asked program (items_of program table)
 
 -- Why there is no table; else what follows from it. A read that failed and want of memory are no part of an answer.
 abbrev pub table_answer : Result Contents DataStop → Command → ProgramTree → Answer
 table_answer (Ok table) asked program = head_answer (first_head_refusal program table) asked program table
-table_answer (Err (data.Refused why)) asked program = refused (data_text why)
+table_answer (Err (reading.Refused why)) asked program = refused (data_text why)
 table_answer (Err _) asked program = not_held
 
 -- the first offence; else what follows from the data files

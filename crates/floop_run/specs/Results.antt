@@ -13,12 +13,8 @@ use Rattle.loop_results.specs.ResultTexts.{result_text}
 use Rattle.tower_inputs.specs.Towers.{kind_of_tower}
 use Rattle.loop_grammar.specs.declared.tree.ProgramTree.{ProgramTree}
 use Rattle.loop_grammar.specs.SkippedFaults.{skips_faults}
-use Rattle.column_input.specs.Table.{Contents}
 use Rattle.loop_meaning.specs.declared.steps.Emitted.{Emitted}
 use Rattle.loop_meaning.specs.declared.runs.Run.{Run}
-use Rattle.loop_meaning.specs.declared.runs.PlainStop.{PlainStop}
-use Rattle.loop_meaning.specs.declared.runs.PlainStop.TheVariants as stop
-use Rattle.loop_meaning.specs.Items.{items_of}
 use Rattle.loop_meaning.specs.Stores.{start_store}
 use Rattle.loop_meaning.specs.Runs.{loop_run}
 use Rattle.loop_meaning.specs.Reducers.{inputs_of, reducers_of}
@@ -97,10 +93,10 @@ fault_line at in_line kind = line (codes "fault: item " ++ decimal at ++ codes "
 -- ---- the whole
 
 -- the plain loop over all items, from the store in which it begins and place 1
-abbrev pub whole_run : ProgramTree → Contents → Run
-whole_run program table = loop_run program (start_store program) (items_of program table) 1
+abbrev pub whole_run : ProgramTree → List Value → Run
+whole_run program items = loop_run program (start_store program) items 1
 
 -- what `check` writes: how many items and how many reducers there are
-abbrev pub accepted_text : ProgramTree → Contents → List ℕ
-accepted_text program table =
-    line (codes "accepted: " ++ decimal (length (items_of program table)) ++ codes " items, " ++ decimal (length (reducers_of program)) ++ codes " reducers")
+abbrev pub accepted_text : ProgramTree → List Value → List ℕ
+accepted_text program items =
+    line (codes "accepted: " ++ decimal (length items) ++ codes " items, " ++ decimal (length (reducers_of program)) ++ codes " reducers")

@@ -1,5 +1,18 @@
 //! The output of a call: its status and its lines, from the words and what files hold.
 
+ghost use Rattle.std.specs.Prelude.{◌≡◌, ◌≢◌, ◌≤◌, Err, IfOk, IfErr, IfSome, IsOk, length, string_bytes};
+ghost use Rattle.std.specs.FinMap.{get};
+ghost use Rattle.edge_io.specs.Faults.{Rose};
+ghost use Rattle.program_words.specs.Words.{texts};
+ghost use Rattle.program_words.specs.Refusals.{refusal_text};
+ghost use Rattle.program_words.specs.Views.{request_seen};
+ghost use Rattle.data_files.specs.Tables.{data_table};
+ghost use Rattle.loop_items.specs.Refusals.{first_head_refusal};
+ghost use Rattle.floop_run.specs.Requests.{request_in, loop_file, data_names};
+ghost use Rattle.floop_run.specs.Answers.{IsAnswer, IsFileAnswer, IsTextAnswer, program_answer, table_answer, head_answer, command_answer, not_held, loop_file_limit, refused};
+ghost use Rattle.floop_run.specs.TopCall.{IsAnswered};
+ghost use Rattle.floop_run.specs.Outputs.{answer_in};
+
 use crate::Status;
 use crate::accepted::accepted_output;
 use crate::data::data_names;
@@ -61,7 +74,18 @@ pub fn output_for<F: Files>(
     alloc: Global,
     words: &[String],
     files: &mut F,
-) -> Result<Output, OutputStop> {
+) -> Result<Output, OutputStop>
+    ensures output { IfSome (F.held files.old) (λ held.
+        IfOk result (λ o. IsAnswer (texts words.now) held (answer_in o))) }
+    ensures words { IfErr (request_in (texts words.now)) (λ text. IfOk result (λ o. answer_in o ≡ refused text)) }
+    ensures read_fault_words { result ≡ Err OutputStop.ReadFault → IsOk (request_in (texts words.now)) }
+    ensures answered { IfOk result (λ o. IsAnswered o.status) }
+    ensures read_fault { IfSome (F.held files.old) (λ held.
+        (Rose (F.faults files.old) (F.faults files.new) → ⊥) → result ≡ Err OutputStop.ReadFault →
+        IsAnswer (texts words.now) held not_held) }
+    ensures held { F.held files.new ≡ F.held files.old }
+    ensures kept { result ≢ Err OutputStop.ReadFault → F.faults files.new ≡ F.faults files.old }
+{
     match request_of(Call::Direct, words) {
         Ok(request) => loop_output(alloc, &request, files),
         Err(why) => Ok(words_output(alloc, why)?),
@@ -69,7 +93,10 @@ pub fn output_for<F: Files>(
 }
 
 /// The output for words that are no request.
-fn words_output(alloc: Global, why: Refusal<'_>) -> Result<Output, NoMemory> {
+fn words_output(alloc: Global, why: Refusal<'_>) -> Result<Output, NoMemory>
+    ensures answer { IfOk result (λ o. answer_in o ≡ refused (refusal_text why.entry)) }
+    ensures answered { IfOk result (λ o. IsAnswered o.status) }
+{
     let text = format!(in alloc; "{why}")?;
     refusal(alloc, text.as_str())
 }
@@ -79,7 +106,16 @@ fn loop_output<F: Files>(
     alloc: Global,
     request: &Request<'_>,
     files: &mut F,
-) -> Result<Output, OutputStop> {
+) -> Result<Output, OutputStop>
+    ensures output { IfSome (F.held files.old) (λ held.
+        IfOk result (λ o. IsFileAnswer (request_seen request.now) held (get held (loop_file (request_seen request.now))) (answer_in o))) }
+    ensures answered { IfOk result (λ o. IsAnswered o.status) }
+    ensures read_fault { IfSome (F.held files.old) (λ held.
+        (Rose (F.faults files.old) (F.faults files.new) → ⊥) → result ≡ Err OutputStop.ReadFault →
+        IsFileAnswer (request_seen request.now) held (get held (loop_file (request_seen request.now))) not_held) }
+    ensures held { F.held files.new ≡ F.held files.old }
+    ensures kept { result ≢ Err OutputStop.ReadFault → F.faults files.new ≡ F.faults files.old }
+{
     let name = request.value(Setting::Loop).unwrap_or("");
     let mut bytes = Vec::new(alloc);
     match files.read_named(alloc, name, LOOP_FILE_LIMIT, &mut bytes) {
@@ -92,13 +128,18 @@ fn loop_output<F: Files>(
 }
 
 /// A refusal is one line.
-pub(crate) fn refusal(alloc: Global, text: &str) -> Result<Output, NoMemory> {
+pub(crate) fn refusal(alloc: Global, text: &str) -> Result<Output, NoMemory>
+    ensures answer { IfOk result (λ o. answer_in o ≡ refused text.now) }
+    ensures answered { IfOk result (λ o. IsAnswered o.status) }
+{
     let line = format!(in alloc; "{text}\n")?;
     one_line(alloc, Status::Refused, line)
 }
 
 /// An output of one line.
-pub(crate) fn one_line(alloc: Global, status: Status, line: String) -> Result<Output, NoMemory> {
+pub(crate) fn one_line(alloc: Global, status: Status, line: String) -> Result<Output, NoMemory>
+    ensures { IfOk result (λ o. answer_in o ≡ record { status = status; text = string_bytes line }) }
+{
     let lines = vec![in alloc; line.into_bytes()]?;
     Ok(Output { status, lines })
 }
@@ -109,7 +150,17 @@ fn text_output<F: Files>(
     request: &Request<'_>,
     bytes: &[u8],
     files: &mut F,
-) -> Result<Output, OutputStop> {
+) -> Result<Output, OutputStop>
+    requires { length bytes.now ≤ loop_file_limit }
+    ensures output { IfSome (F.held files.old) (λ held.
+        IfOk result (λ o. IsTextAnswer (request_seen request.now) held bytes.now (answer_in o))) }
+    ensures answered { IfOk result (λ o. IsAnswered o.status) }
+    ensures read_fault { IfSome (F.held files.old) (λ held.
+        (Rose (F.faults files.old) (F.faults files.new) → ⊥) → result ≡ Err OutputStop.ReadFault →
+        IsTextAnswer (request_seen request.now) held bytes.now not_held) }
+    ensures held { F.held files.new ≡ F.held files.old }
+    ensures kept { result ≢ Err OutputStop.ReadFault → F.faults files.new ≡ F.faults files.old }
+{
     match read_program(alloc, bytes) {
         Ok(program) => program_output(alloc, request, program, files),
         Err(SyntaxRefusal::NoMemory) => Err(OutputStop::NoMemory),
@@ -126,7 +177,16 @@ fn program_output<F: Files>(
     request: &Request<'_>,
     program: Program,
     files: &mut F,
-) -> Result<Output, OutputStop> {
+) -> Result<Output, OutputStop>
+    ensures output { IfSome (F.held files.old) (λ held.
+        IfOk result (λ o. (answer_in o) ≡ program_answer (request_seen request.now) held program)) }
+    ensures answered { IfOk result (λ o. IsAnswered o.status) }
+    ensures read_fault { IfSome (F.held files.old) (λ held.
+        (Rose (F.faults files.old) (F.faults files.new) → ⊥) → result ≡ Err OutputStop.ReadFault →
+        not_held ≡ program_answer (request_seen request.now) held program) }
+    ensures held { F.held files.new ≡ F.held files.old }
+    ensures kept { result ≢ Err OutputStop.ReadFault → F.faults files.new ≡ F.faults files.old }
+{
     match check_program(alloc, program) {
         Ok(legal) => legal_output(alloc, request, &legal, files),
         Err(LegalRefusal::NoMemory) => Err(OutputStop::NoMemory),
@@ -143,7 +203,16 @@ fn legal_output<F: Files>(
     request: &Request<'_>,
     legal: &LegalProgram,
     files: &mut F,
-) -> Result<Output, OutputStop> {
+) -> Result<Output, OutputStop>
+    ensures output { IfSome (F.held files.old) (λ held.
+        IfOk result (λ o. (answer_in o) ≡ table_answer (data_table (data_names (request_seen request.now)) held) request.now.command legal.now)) }
+    ensures answered { IfOk result (λ o. IsAnswered o.status) }
+    ensures read_fault { IfSome (F.held files.old) (λ held.
+        (Rose (F.faults files.old) (F.faults files.new) → ⊥) → result ≡ Err OutputStop.ReadFault →
+        not_held ≡ table_answer (data_table (data_names (request_seen request.now)) held) request.now.command legal.now) }
+    ensures held { F.held files.new ≡ F.held files.old }
+    ensures kept { result ≢ Err OutputStop.ReadFault → F.faults files.new ≡ F.faults files.old }
+{
     let names = data_names(alloc, request)?;
     match read_data(alloc, &names, files) {
         Ok(table) => Ok(table_output(alloc, request.command, legal, &table)?),
@@ -163,7 +232,10 @@ fn table_output(
     command: Command,
     legal: &LegalProgram,
     table: &Table,
-) -> Result<Output, NoMemory> {
+) -> Result<Output, NoMemory>
+    ensures answer { IfOk result (λ o. answer_in o ≡ head_answer (first_head_refusal legal.now table.now) command legal.now table.now) }
+    ensures answered { IfOk result (λ o. IsAnswered o.status) }
+{
     match HeadItems::open(alloc, legal.program(), table) {
         Ok(head) => command_output(alloc, command, legal, &head),
         Err(HeadRefusal::NoMemory) => Err(NoMemory),
@@ -180,7 +252,10 @@ fn command_output(
     command: Command,
     legal: &LegalProgram,
     head: &HeadItems<'_>,
-) -> Result<Output, NoMemory> {
+) -> Result<Output, NoMemory>
+    ensures answer { IfOk result (λ o. answer_in o ≡ command_answer command legal.now head.now.items) }
+    ensures answered { IfOk result (λ o. IsAnswered o.status) }
+{
     match command {
         Command::Check => accepted_output(alloc, legal, head),
         Command::Run => run_output(alloc, legal, head),

@@ -1,5 +1,10 @@
 //! The data files that a request names.
 
+ghost use Rattle.std.specs.Prelude.{◌≡◌, IfOk};
+ghost use Rattle.program_words.specs.Views.{request_seen};
+ghost use Rattle.data_files.specs.Tables.{names_seen};
+ghost use Rattle.floop_run.specs.Requests.{data_names};
+
 use program_words::{Request, Setting};
 use std::alloc::{AllocError, Global};
 
@@ -7,7 +12,9 @@ use std::alloc::{AllocError, Global};
 pub(crate) fn data_names<'a>(
     alloc: Global,
     request: &Request<'a>,
-) -> Result<Vec<&'a str>, AllocError> {
+) -> Result<Vec<&'a str>, AllocError>
+    ensures { IfOk result (λ names. names_seen names.items ≡ data_names (request_seen request.now)) }
+{
     match request.value(Setting::Data) {
         Some(value) => value.split(',').collect(alloc),
         None => Ok(Vec::new(alloc)),

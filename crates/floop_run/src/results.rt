@@ -1,5 +1,14 @@
 //! What `run` writes: the results, or the fault.
 
+ghost use Rattle.std.specs.Prelude.{◌≡◌, ◌<◌, ◌≤◌, IfOk, flat_map, string_bytes};
+ghost use Rattle.loop_meaning.specs.declared.runs.Run.{Run};
+ghost use Rattle.plain_path.specs.Paths.{IsDone, run_over};
+ghost use Rattle.plain_path.specs.Rows.{row_of as row_in};
+ghost use Rattle.floop_run.specs.Results.{fault_text, fault_line, result_line, results_text, whole_run};
+ghost use Rattle.floop_run.specs.Answers.{done, run_answer};
+ghost use Rattle.floop_run.specs.TopCall.{IsAnswered, joined};
+ghost use Rattle.floop_run.specs.Outputs.{answer_in};
+
 use crate::Status;
 use crate::answer::{Output, one_line};
 use edge_io::NoMemory;
@@ -11,7 +20,9 @@ use reducer_tower::{Row, RowState, RowStop};
 use std::alloc::{AllocError, Global};
 
 /// What a fault of this kind is called.
-fn fault_text(kind: u8) -> &'static str {
+fn fault_text(kind: u8) -> &'static str
+    ensures { result.now ≡ fault_text kind }
+{
     match kind {
         1 => "division error",
         2 => "not a number",
@@ -22,7 +33,9 @@ fn fault_text(kind: u8) -> &'static str {
 }
 
 /// The line of a fault.
-fn fault_line(alloc: Global, at: u64, line: u32, kind: u8) -> Result<String, AllocError> {
+fn fault_line(alloc: Global, at: u64, line: u32, kind: u8) -> Result<String, AllocError>
+    ensures { IfOk result (λ text. string_bytes text ≡ fault_line at line kind) }
+{
     let text = fault_text(kind);
     format!(in alloc; "fault: item {at}, line {line}: {text}\n")
 }
@@ -84,7 +97,10 @@ pub(crate) fn run_output(
     alloc: Global,
     legal: &LegalProgram,
     head: &HeadItems<'_>,
-) -> Result<Output, NoMemory> {
+) -> Result<Output, NoMemory>
+    ensures answer { IfOk result (λ o. answer_in o ≡ run_answer legal.now (whole_run legal.now head.now.items)) }
+    ensures answered { IfOk result (λ o. IsAnswered o.status) }
+{
     let row = row_of(alloc, legal.program())?;
     match fold_plain(alloc, legal.program(), head, &row)? {
         PathEnd::Done { state, skipped } => done_output(alloc, legal, &row, &state, skipped),

@@ -1,5 +1,10 @@
 //! The plain loop folded into a row.
 
+ghost use Rattle.std.specs.Prelude.{◌≡◌, true, IfOk, length};
+ghost use Rattle.legality_rules.specs.Offences.{IsLegal};
+ghost use Rattle.plain_path.specs.Rows.{row_of, pairs_fit, numbered};
+ghost use Rattle.plain_path.specs.Paths.{IsEnd, run_over};
+
 use loop_data::Many;
 use loop_items::HeadItems;
 use loop_meaning::{BodyEnd, Emitted, start_store, step_plain};
@@ -87,7 +92,13 @@ pub fn fold_plain(
     program: &Program,
     head: &HeadItems<'_>,
     row: &Row,
-) -> Result<PathEnd, NoMemory> {
+) -> Result<PathEnd, NoMemory>
+    requires legal { IsLegal program.now }
+    requires row { row.now.towers.items ≡ row_of program.now }
+    // What a legal loop emits fits its towers: to be a law of legal programs over items that fit their head.
+    requires fit { pairs_fit row.now.towers.items (run_over program.now head.now.items).emitted ≡ true }
+    ensures { IfOk result (IsEnd row.now.towers.items (run_over program.now head.now.items)) }
+{
     let mut walked = Walked {
         store: start_store(alloc, program)?,
         state: row.unit(alloc)?,

@@ -1,5 +1,11 @@
 //! The row of a program's reducers.
 
+ghost use Rattle.std.specs.Prelude.{◌≡◌, ◌≤◌, IfOk, OnOk, length};
+ghost use Rattle.legality_rules.specs.Offences.{IsLegal};
+ghost use Rattle.reducer_tower.specs.Rows.{named_tower};
+ghost use Rattle.tower_inputs.specs.Towers.{kind_of_tower};
+ghost use Rattle.plain_path.specs.Rows.{with_line, with_lines, lines_in, row_of};
+
 use loop_data::{Branch, Statement, TextValue, TowerExpr, Value};
 use loop_syntax::Program;
 use no_memory::NoMemory;
@@ -70,7 +76,10 @@ fn add_block(alloc: Global, block: &[Statement], row: &mut Row) -> Result<(), No
 }
 
 /// The reducers of a program, in the order of their first `@reduce` lines, each with its kind and its start value.
-pub fn row_of(alloc: Global, program: &Program) -> Result<Row, NoMemory> {
+pub fn row_of(alloc: Global, program: &Program) -> Result<Row, NoMemory>
+    requires { IsLegal program.now }
+    ensures { IfOk result (λ row. row.towers.items ≡ row_of program.now) }
+{
     let mut row = Row::new(alloc);
     add_block(alloc, program.body().as_slice(), &mut row)?;
     Ok(row)
