@@ -1,13 +1,14 @@
 -- The top call's clauses, from those of what it calls.
-use Rattle.std.proofs.Common.{◌≡◌, ◌≢◌, ℕ, List, Option, Some, None, refl}
-use Rattle.std.specs.Prelude.{IfSome}
+use Rattle.std.proofs.Common.{◌≡◌, ◌≢◌, ℕ, List, Option, Some, None, refl, subst}
+use Rattle.std.specs.Prelude.{IfSome, IfErr, Result, Ok, Err}
 use Rattle.edge_io.specs.Reading.{Held}
 use Rattle.floop_run.specs.declared.answer.Output.{Output}
 use Rattle.floop_run.specs.declared.status.Status.{Status}
 use Rattle.floop_run.specs.declared.status.Status.TheVariants as status
 use Rattle.floop_run.specs.Outputs.{answer_in}
-use Rattle.floop_run.specs.Answers.{Answer, IsAnswer, not_held}
-use Rattle.floop_run.specs.TopCall.{Gives, GivesAnswer, IsAnswered}
+use Rattle.program_words.specs.Requests.{Request}
+use Rattle.floop_run.specs.Answers.{Answer, IsAnswer, refused, not_held}
+use Rattle.floop_run.specs.TopCall.{Gives, GivesAnswer, PutsPrefixOf, IsAnswered}
 use Rattle.floop_run.proofs.AnswerLemmas.{only_not_held}
 use Rattle.floop_run.proofs.PutLemmas.{Puts-nothing}
 
@@ -30,3 +31,9 @@ pub only_output : (held : Option Held) (words : List (List ℕ)) (output : Outpu
     IfSome held (λ h. (A → ⊥) → IsAnswer words h not_held → given ≢ status.NoMemory → given ≡ status.ReadFault)
 only_output None words output given A is answered = tt
 only_output (Some h) words output given A is answered = λ a missing ne. absurd (only_not_held words h (answer_in output) missing is answered)
+
+-- a failed put of the text of refused words leaves a prefix of it
+pub prefix_of_refused : (request : Result Request (List ℕ)) (before now : Option (List ℕ)) (output : Output) (given : Status) → IfErr request (λ text. answer_in output ≡ refused text) →
+    (given ≡ status.WriteFault → PutsPrefixOf (answer_in output) before now) → IfErr request (λ text. given ≡ status.WriteFault → PutsPrefixOf (refused text) before now)
+prefix_of_refused (Ok asked) before now output given is puts = tt
+prefix_of_refused (Err text) before now output given is puts = λ e. subst (λ a. PutsPrefixOf a before now) is (puts e)

@@ -7,7 +7,8 @@ use Rattle.loop_data.specs.declared.value.Value.{Value}
 use Rattle.loop_data.specs.declared.tower.Kind.{Kind}
 use Rattle.loop_data.specs.declared.statement.Statement.{Statement}
 use Rattle.loop_data.specs.declared.statement.Statement.TheOpen.{Statement-F, Statement-F as s, Branch-F}
-use Rattle.loop_data.specs.declared.statement.Statement.TheFolds.{fold-Statement}
+use Rattle.loop_data.specs.declared.statement.Branch.{Branch}
+use Rattle.loop_data.specs.declared.statement.Statement.TheFolds.{fold-Statement, fold-Branch}
 use Rattle.loop_values.specs.Fits.{fits_tower}
 use Rattle.tower_inputs.specs.Towers.{kind_of_tower}
 use Rattle.loop_grammar.specs.declared.tree.ProgramTree.{ProgramTree}
@@ -34,6 +35,13 @@ lines_step _ = []
 abbrev pub lines_in : Statement → List Named
 lines_in = fold-Statement (List Named) (List Named) lines_step branch_lines
 
+abbrev pub lines_in_branch : Branch → List Named
+lines_in_branch = fold-Branch (List Named) (List Named) lines_step branch_lines
+
+-- the `@reduce` lines of a program, by rising lines
+abbrev pub lines_of : ProgramTree → List Named
+lines_of program = all_lines (map lines_in program.body)
+
 abbrev pub unless_there : Option ℕ → List Named → Named → List Named
 unless_there None row line = row ++ line ∷ []
 unless_there (Some i) row line = row
@@ -48,7 +56,7 @@ with_lines row (line ∷ lines) = with_lines (with_line row line) lines
 
 -- the reducers of a program in the order of their first `@reduce` lines, each with the kind and the start value of that line
 abbrev pub row_of : ProgramTree → List Named
-row_of program = with_lines [] (all_lines (map lines_in program.body))
+row_of program = with_lines [] (lines_of program)
 
 -- ---- pairs
 

@@ -1,8 +1,10 @@
 //! The plain loop folded into a row.
 
-ghost use Rattle.std.specs.Prelude.{◌≡◌, true, IfOk, length};
+ghost use Rattle.std.specs.Prelude.{◌≡◌, ◌++◌, List, true, IfOk, OnOk};
 ghost use Rattle.legality_rules.specs.Offences.{IsLegal};
-ghost use Rattle.plain_path.specs.Rows.{row_of, pairs_fit, numbered};
+ghost use Rattle.reducer_tower.specs.declared.row.Emitted.{Emitted as RowInput};
+ghost use Rattle.reducer_tower.specs.Rows.{RowStands, number_of};
+ghost use Rattle.plain_path.specs.Rows.{row_of, pairs_fit, fits_number, input_for, numbered};
 ghost use Rattle.plain_path.specs.Paths.{IsEnd, run_over};
 
 use loop_data::Many;
@@ -32,25 +34,40 @@ struct Walked {
     skipped: u64,
 }
 
+/// The states with one more pair, for the reducer of its name.
+fn add_pair(alloc: Global, row: &Row, state: &mut RowState, pair: Emitted) -> Result<(), NoMemory>
+    requires { fits_number row.now.towers.items (number_of pair.name row.now.towers.items) pair.input ≡ true }
+    ensures { OnOk result ((inputs : List RowInput) → RowStands row.now.towers.items state.old.states.items inputs →
+        RowStands row.now.towers.items state.new.states.items
+        (inputs ++ input_for (number_of pair.name row.now.towers.items) pair.input)) }
+{
+    let Emitted { name, input } = pair;
+    match row.tower(name.as_str()) {
+        Some(tower) => row.next(
+            alloc,
+            state,
+            Input {
+                tower,
+                value: input,
+            },
+        ),
+        None => Ok(()),
+    }
+}
+
 /// The states with these pairs, each for the reducer of its name.
-fn add_all(
+fn add_pairs(
     alloc: Global,
     row: &Row,
     state: &mut RowState,
-    emitted: Many<Emitted>,
-) -> Result<(), NoMemory> {
-    for pair in emitted.into_vec() {
-        let Emitted { name, input } = pair;
-        if let Some(tower) = row.tower(name.as_str()) {
-            row.next(
-                alloc,
-                state,
-                Input {
-                    tower,
-                    value: input,
-                },
-            )?;
-        }
+    pairs: Many<Emitted>,
+) -> Result<(), NoMemory>
+    requires { pairs_fit row.now.towers.items pairs ≡ true }
+    ensures { OnOk result ((inputs : List RowInput) → RowStands row.now.towers.items state.old.states.items inputs →
+        RowStands row.now.towers.items state.new.states.items (inputs ++ numbered row.now.towers.items pairs)) }
+{
+    for pair in pairs.into_vec() {
+        add_pair(alloc, row, state, pair)?;
     }
     Ok(())
 }
@@ -71,7 +88,7 @@ fn step_at(
         walked.skipped += 1;
         return Ok(BodyEnd::Next);
     }
-    add_all(alloc, row, &mut walked.state, emitted)?;
+    add_pairs(alloc, row, &mut walked.state, emitted)?;
     Ok(end)
 }
 

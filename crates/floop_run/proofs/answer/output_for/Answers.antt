@@ -1,5 +1,4 @@
 use Rattle.program_words.specs.Words.{texts}
-use Rattle.program_words.specs.Refusals.{refusal_text}
 use Rattle.program_words.specs.Views.{request_seen}
 use Rattle.floop_run.proofs.ReadLemmas.{every, refused_answer, asked_answers, asked_missing}
 use Rattle.floop_run.proofs.answer.output_for.Goals as goal
@@ -11,3 +10,7 @@ returns-in-Ok-clause-output g c =
 pub returns-in-Ok-clause-read_fault : goal.returns-in-Ok-clause-read_fault
 returns-in-Ok-clause-read_fault g c =
     asked_missing (texts c.args.words.now) (request_seen c.in-Ok.request) (g.F.Files.held c.args.files.now) _ _ c.in-Ok.ensures.request c.loop_output.ensures.read_fault
+
+pub returns-in_ok-words_output-in-Err-clause-output : goal.returns-in_ok-words_output-in-Err-clause-output
+returns-in_ok-words_output-in-Err-clause-output g c =
+    every (g.F.Files.held c.args.files.now) _ (λ held. refused_answer (texts c.args.words.now) _ held _ c.in-Err.ensures.refusal c.in_ok-words_output-in-Err.ensures.answer)

@@ -1,5 +1,6 @@
-use Rattle.floop_run.specs.TopCall.{texts}
-use Rattle.floop_run.proofs.TopLemmas.{Gives-not_held, Gives-output, only_output}
+use Rattle.program_words.specs.Words.{texts}
+use Rattle.floop_run.specs.Requests.{request_in}
+use Rattle.floop_run.proofs.TopLemmas.{Gives-not_held, Gives-output, only_output, prefix_of_refused}
 use Rattle.floop_run.proofs.top.floop_words.Goals as goal
 
 pub returns-in-Err-ReadFault-clause-headline : goal.returns-in-Err-ReadFault-clause-headline
@@ -13,3 +14,7 @@ returns-in-Ok-clause-headline g c =
 pub returns-in-Ok-clause-not_held : goal.returns-in-Ok-clause-not_held
 returns-in-Ok-clause-not_held g c =
     only_output (g.F.Files.held c.args.files.now) (texts c.args.words.now) c.in-Ok.output c.give.result _ c.in-Ok.ensures.output c.in-Ok.ensures.answered
+
+pub returns-in-Ok-clause-words_prefix : goal.returns-in-Ok-clause-words_prefix
+returns-in-Ok-clause-words_prefix g c =
+    prefix_of_refused (request_in (texts c.args.words.now)) (g.K.Sink.written c.args.out.now) _ c.in-Ok.output c.give.result c.in-Ok.ensures.words c.give.ensures.prefix

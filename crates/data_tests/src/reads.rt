@@ -1,0 +1,67 @@
+//! One file, several, and files that fail.
+
+use crate::{Row, check, files_of, shown};
+use std::test::Fail;
+
+static ONE: [Row; 6] = [
+    ("v\n1\n2\n", "2 rows, 1 files"),
+    ("v", "0 rows, 1 files"),
+    ("", "data: no header"),
+    ("a,b\n1,2\n3\n", "data: record 3: 1 fields, header has 2"),
+    // only the files that are named are read
+    ("v\n1\n|w\n2\n", "1 rows, 1 files"),
+    ("\u{feff}v\r\n1\r\n", "1 rows, 1 files"),
+];
+
+#[test]
+fn one_file(rt: HostRuntime) -> Result<(), Fail> {
+    check(&rt, rt.alloc(), &["1"], &ONE)
+}
+
+static TWO: [Row; 7] = [
+    ("v\n1\n2\n|v\r\n3\r\n", "3 rows, 2 files"),
+    ("v\n|v\n", "0 rows, 2 files"),
+    (
+        "v\n1\n|v,w\n2,3\n",
+        "data file 2: header differs at field 2",
+    ),
+    ("v\n1\n|", "data file 2: no header"),
+    // a file is looked at only where all before it were taken
+    ("|v\n1\n", "data file 1: no header"),
+    (
+        "v\n1,2\n|w\n",
+        "data file 1: record 2: 2 fields, header has 1",
+    ),
+    ("v\n1\n", "not held"),
+];
+
+#[test]
+fn two_files(rt: HostRuntime) -> Result<(), Fail> {
+    check(&rt, rt.alloc(), &["1", "2"], &TWO)
+}
+
+#[test]
+fn no_files_and_one_twice(rt: HostRuntime) -> Result<(), Fail> {
+    check(&rt, rt.alloc(), &[], &[("v\n1\n", "0 rows, 0 files")])?;
+    check(
+        &rt,
+        rt.alloc(),
+        &["1", "2", "1"],
+        &[("v\n1\n|v\n2\n3\n", "4 rows, 3 files")],
+    )
+}
+
+/// The read that fails, and what is told.
+static FAILED: [(u64, &str); 3] = [(1, "failed"), (2, "failed"), (3, "2 rows, 2 files")];
+
+#[test]
+fn reads_that_fail(rt: HostRuntime) -> Result<(), Fail> {
+    let alloc = rt.alloc();
+    for (read, wanted) in &FAILED {
+        let mut files = files_of(alloc, "v\n1\n|v\n2\n")?;
+        files.fail_at(alloc, *read)?;
+        let given = shown(alloc, &["1", "2"], &mut files)?;
+        assert_eq!(rt; given.as_str(), *wanted);
+    }
+    Ok(())
+}
