@@ -129,30 +129,6 @@ fn items_cross_from_file_to_file(rt: HostRuntime) -> Result<(), Fail> {
     check_head(&rt, alloc, &program, &table, "|(a, 5)|(b, 6)|(c, 7)")
 }
 
-/// Checks the count, the lengths and the last item of a head.
-fn check_last(
-    rt: &impl Abort,
-    alloc: Global,
-    program: &Program,
-    table: &Table,
-) -> Result<(), Fail> {
-    let head = HeadItems::open(alloc, program, table).map_err(|_| "refused")?;
-    assert_eq!(rt; head.count(), 4294967296);
-    assert_eq!(rt; head.shape().lens(), [65536, 65536].as_slice());
-    let last = head.item(alloc, head.count())?;
-    assert_eq!(rt; last.text(alloc)?.as_str(), "(65536, 65536)");
-    Ok(())
-}
-
-/// As many items as there may be.
-#[test]
-fn the_largest_head(rt: HostRuntime) -> Result<(), Fail> {
-    let alloc = rt.alloc();
-    let table = Table::empty(alloc);
-    let program = read(alloc, "for p in product(1:65536, 1:65536)\nend\n")?;
-    check_last(&rt, alloc, &program, &table)
-}
-
 /// Checks that a walk along one item gives it, and then nothing, however often it is asked.
 fn check_end(rt: &impl Abort, alloc: Global, head: &HeadItems<'_>) -> Result<(), Fail> {
     let whole = head.shape().whole().ok_or("empty")?;

@@ -11,3 +11,5 @@ mod random;
 mod refusals;
 #[cfg(test)]
 mod run;
+#[cfg(test)]
+mod shapes;

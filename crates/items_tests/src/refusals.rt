@@ -4,7 +4,7 @@ use crate::run::{Row, check};
 use loop_items::HeadRefusal;
 use std::test::Fail;
 
-static REFUSALS: [Row; 17] = [
+static REFUSALS: [Row; 19] = [
     (
         "for t in col(\"zzz\")\nend\n",
         "a,b\n1,2\n",
@@ -76,6 +76,16 @@ static REFUSALS: [Row; 17] = [
         "for p in product(1:5000000000, 1:0:5)\nend\n",
         "",
         "line 1: 5000000000 items, at most 4294967296",
+    ),
+    (
+        "for p in product(1:0:5, 1:5000000000)\nend\n",
+        "",
+        "line 1: step is zero",
+    ),
+    (
+        "for (a, b) in zip(col(\"zzz\"), 1:5000000000)\nend\n",
+        "",
+        "line 1: no column zzz",
     ),
     // inside zips too, and before the product
     (

@@ -39,7 +39,7 @@ pub fn by_place(alloc: Global, head: &HeadItems<'_>) -> Result<String, Fail> {
     Ok(out)
 }
 
-/// Puts the items of a part behind the others, a bar before each.
+/// Puts the items of a part behind the others, a bar before each. The walk has to end where the part does.
 fn push_part(alloc: Global, head: &HeadItems<'_>, part: &Part, out: &mut String) -> Result<(), Fail>
     requires { part.now.lens ≡ head.now.lens }
 {
@@ -48,6 +48,9 @@ fn push_part(alloc: Global, head: &HeadItems<'_>, part: &Part, out: &mut String)
         if let Some(item) = walk.next(alloc)? {
             write!(out, "|{item}")?;
         }
+    }
+    if walk.next(alloc)?.is_some() {
+        return Err(Fail::from("goes on"));
     }
     Ok(())
 }
@@ -81,15 +84,30 @@ pub fn walked(alloc: Global, head: &HeadItems<'_>, least: u64) -> Result<String,
     Ok(out)
 }
 
+/// How many places the leaves have at most, each time that a head is walked: first the whole is one leaf.
+static LEAVES: [u64; 4] = [4294967296, 5, 2, 1];
+
+/// The items by place, or where a walk along leaves gives others, both.
+fn by_place_and_walked(alloc: Global, head: &HeadItems<'_>) -> Result<String, Fail> {
+    let placed = by_place(alloc, head)?;
+    for least in &LEAVES {
+        let along = walked(alloc, head, *least)?;
+        if along.as_str() != placed.as_str() {
+            return Ok(format!(in alloc; "{placed} but in leaves of {least} {along}")?);
+        }
+    }
+    Ok(placed)
+}
+
 /// The items, or the refusal.
 fn said(alloc: Global, program: &Program, table: &Table) -> Result<String, Fail> {
     match HeadItems::open(alloc, program, table) {
-        Ok(head) => by_place(alloc, &head),
+        Ok(head) => by_place_and_walked(alloc, &head),
         Err(refusal) => Ok(format!(in alloc; "{refusal}")?),
     }
 }
 
-/// Checks that a head has the items that are wanted, by place and along its leaves.
+/// Checks that a head has the items that are wanted, by place, along the whole and along its leaves.
 pub fn check_head(
     rt: &impl Abort,
     alloc: Global,
@@ -98,8 +116,7 @@ pub fn check_head(
     wanted: &str,
 ) -> Result<(), Fail> {
     let open = HeadItems::open(alloc, program, table).map_err(|_| "refused")?;
-    assert_eq!(rt; by_place(alloc, &open)?.as_str(), wanted);
-    assert_eq!(rt; walked(alloc, &open, 2)?.as_str(), wanted);
+    assert_eq!(rt; by_place_and_walked(alloc, &open)?.as_str(), wanted);
     Ok(())
 }
 
