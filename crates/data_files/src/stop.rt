@@ -34,7 +34,7 @@ pub enum DataStop {
     NoMemory,
 }
 
-/// The refusal as the program writes it, as `data: no header`, and of one of several files `data file 2: no header`.
+/// The refusal as the program is to write it, as `data: no header`, and of one of several files `data file 2: no header`.
 impl fmt::Display for DataRefusal {
     ghost use Rattle.std.specs.Prelude.{Some};
     ghost use Rattle.data_files.specs.Texts.{data_text};

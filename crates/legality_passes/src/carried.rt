@@ -246,7 +246,8 @@ fn carriable(
     assigned: &[TextValue],
     outer: &[TextValue],
 ) -> Result<Many<TextValue>, NoMemory>
-    ensures { IfOk result (λ names. names ≡ filter (λ n. is_in assigned.now n && not (is_in outer.now n)) (map (λ (b : Binding). b.name) scratch.now)) }
+    ensures { IfOk result (λ names. names ≡
+        filter (λ n. is_in assigned.now n && not (is_in outer.now n)) (map (λ (b : Binding). b.name) scratch.now)) }
 {
     let mut names = Many::new(alloc);
     for binding in scratch {

@@ -167,7 +167,8 @@ fn check_bound_head(
     fits: bool,
     splittable: bool,
 ) -> Result<State, LegalRefusal>
-    ensures { result ≢ Err LegalRefusal.NoMemory → result ≡ bound_head_checked reducers.now head.now (option_copied twice.entry) fits splittable state }
+    ensures { result ≢ Err LegalRefusal.NoMemory →
+        result ≡ bound_head_checked reducers.now head.now (option_copied twice.entry) fits splittable state }
 {
     refuse(alloc, 2, head.line, twice)?;
     let first = first_bounds(alloc, head.axes.as_slice())?;

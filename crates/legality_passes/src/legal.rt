@@ -66,7 +66,8 @@ fn try_rules(alloc: Global, program: &ProgramTree) -> Result<(), LegalRefusal>
 /// `Illegal` with exactly its first offence: the least line that breaks a rule, there the least number, there the leftmost
 /// name; `NoMemory` for want of memory.
 pub fn check_tree(alloc: Global, program: &ProgramTree) -> Result<(), LegalRefusal>
-    ensures { (text : List ℕ) → SpellsProgram text program.now → result ≢ Err LegalRefusal.NoMemory → result ≡ answer (first_offence program.now) }
+    ensures { (text : List ℕ) → SpellsProgram text program.now → result ≢ Err LegalRefusal.NoMemory →
+        result ≡ answer (first_offence program.now) }
 {
     try_rules(alloc, program)
 }

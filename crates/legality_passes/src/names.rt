@@ -200,7 +200,8 @@ pub(crate) fn try_names(
     twice: Option<&TextValue>,
     variable: Option<&TextValue>,
 ) -> Result<(), LegalRefusal>
-    ensures { result ≢ Err LegalRefusal.NoMemory → result ≡ answer (names_offence reducers.now scope.now line used.now (option_copied twice.entry) (option_copied variable.entry)) }
+    ensures { result ≢ Err LegalRefusal.NoMemory →
+        result ≡ answer (names_offence reducers.now scope.now line used.now (option_copied twice.entry) (option_copied variable.entry)) }
 {
     refuse(alloc, 1, line, unknown(reducers, scope, used))?;
     refuse(alloc, 2, line, twice)?;

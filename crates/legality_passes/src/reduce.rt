@@ -153,7 +153,8 @@ pub(crate) fn check_reduce(
     tower: &TowerExpr,
     start: Option<&Value>,
 ) -> Result<State, LegalRefusal>
-    ensures { result ≢ Err LegalRefusal.NoMemory → result ≡ reduce_checked reducers.now line name.now tower.now (option_copied start.entry) state }
+    ensures { result ≢ Err LegalRefusal.NoMemory →
+        result ≡ reduce_checked reducers.now line name.now tower.now (option_copied start.entry) state }
 {
     let used = tower_reads(alloc, tower)?;
     let twice = one_of(state.bound.as_slice(), name);

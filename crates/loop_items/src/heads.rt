@@ -92,7 +92,7 @@ impl<'a> HeadItems<'a> {
 
     /// The item at a place, from 1. Refused only for want of memory: a tuple takes its size, a text of over 23 bytes its bytes.
     ///
-    /// It divides once or twice for each axis; a [`walk`](HeadItems::walk) along neighbours doesn't.
+    /// It may divide on each axis but the slowest; a [`walk`](HeadItems::walk) along neighbours divides only where it begins.
     pub fn item(&self, alloc: Global, place: u64) -> Result<Value, NoMemory>
         requires from { 1 ≤ place }
         requires to { place ≤ length self.now.items }

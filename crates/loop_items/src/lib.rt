@@ -7,7 +7,9 @@
 //! ```text
 //! let head = HeadItems::open(alloc, &program, &table)?;
 //! let mut walk = head.walk(&part);
-//! while let Some(item) = walk.next(alloc)? { .. }
+//! for _ in 0..part.len() {
+//!     if let Some(item) = walk.next(alloc)? { .. }
+//! }
 //! ```
 #![tactic(auto)]
 
