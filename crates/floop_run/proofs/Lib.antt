@@ -1,9 +1,5 @@
 mod AnswerLaws
 mod AnswerLemmas
-mod BuiltLemmas
-mod LoopLemmas
-mod NumericLemmas
 mod PutLemmas
 mod ReadLemmas
-mod SumLemmas
 mod TopLemmas

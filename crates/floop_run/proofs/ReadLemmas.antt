@@ -1,5 +1,5 @@
 -- From what a read of the loop file gives to the answer.
-use Rattle.std.proofs.Common.{◌≡◌, ◌≢◌, ℕ, Bool, true, false, List, [], Option, Some, None, Result, Ok, Err, length, refl, sym, subst}
+use Rattle.std.proofs.Common.{◌≡◌, ◌≢◌, ℕ, Bool, true, false, List, [], Option, Some, None, Result, Ok, Err, length, refl, sym, subst, ◌∙◌}
 use Rattle.std.specs.Prelude.{IfOk, IfSome, IsOk, codes, nat_le, if◌then◌else◌}
 use Rattle.std.specs.FinMap.{get}
 use Rattle.std.proofs.lemmas.Bool.{leb-true, leb-false}
@@ -8,10 +8,11 @@ use Rattle.edge_io.specs.declared.files.ReadStop.TheVariants as stop
 use Rattle.edge_io.specs.Reading.{Held, read_answer, Reads}
 use Rattle.floop_run.specs.declared.answer.Output.{Output}
 use Rattle.floop_run.specs.declared.answer.OutputStop.{OutputStop}
+use Rattle.floop_run.specs.declared.answer.OutputStop.TheVariants as why
 use Rattle.program_words.specs.Requests.{Request}
-use Rattle.floop_run.specs.Requests.{built_file}
+use Rattle.floop_run.specs.Requests.{request_in, loop_file}
 use Rattle.floop_run.specs.Outputs.{answer_in}
-use Rattle.floop_run.specs.Answers.{Answer, refused, not_held, not_built, loop_file_limit, IsTextAnswer, IsFileAnswer, missing, too_long, within, IsNameAnswer, no_name, named, IsRequestAnswer, no_request, asked, request_in, IsAnswer}
+use Rattle.floop_run.specs.Answers.{Answer, refused, not_held, loop_file_limit, IsTextAnswer, IsFileAnswer, missing, too_long, within, IsRequestAnswer, no_request, asked, IsAnswer}
 
 -- what holds of each holds of what is there
 pub every : {A : Type 0} (o : Option A) (P : A → Type 0) → ((a : A) → P a) → IfSome o P
@@ -38,26 +39,26 @@ long_missing : {T : Type 0} (r : Result T ReadStop) → r ≡ Err stop.TooLong �
 long_missing r e f = absurd (cc)
 
 -- the bytes were read
-ok_fit : {T : Type 0} (r : Result T ReadStop) (t : T) (now bytes : List ℕ) (answer : Answer) (b : Bool) → nat_le (length bytes) loop_file_limit ≡ b → r ≡ Ok t →
-    Reads (if b then Ok bytes else Err stop.TooLong) r [] now → IsTextAnswer now answer → IsFileAnswer (Some bytes) answer
-ok_fit r t now bytes answer true is e h x = within (leb-true _ _ is) (subst (λ bs. IsTextAnswer bs answer) h.1 x)
-ok_fit r t now bytes answer false is e h x = absurd (ok_err r t stop.TooLong e h)
+ok_fit : {T : Type 0} (q : Request) (h : Held) (r : Result T ReadStop) (t : T) (now bytes : List ℕ) (answer : Answer) (b : Bool) → nat_le (length bytes) loop_file_limit ≡ b → r ≡ Ok t →
+    Reads (if b then Ok bytes else Err stop.TooLong) r [] now → IsTextAnswer q h now answer → IsFileAnswer q h (Some bytes) answer
+ok_fit q h r t now bytes answer true is e hx x = within (leb-true _ _ is) (subst (λ bs. IsTextAnswer q h bs answer) hx.1 x)
+ok_fit q h r t now bytes answer false is e hx x = absurd (ok_err r t stop.TooLong e hx)
 
-pub ok_read : {T : Type 0} (r : Result T ReadStop) (t : T) (file : Option (List ℕ)) (now : List ℕ) (answer : Answer) → r ≡ Ok t → Reads (read_answer file loop_file_limit) r [] now →
-    IsTextAnswer now answer → IsFileAnswer file answer
-ok_read r t None now answer e h x = absurd (ok_err r t stop.NotHeld e h)
-ok_read r t (Some bytes) now answer e h x = ok_fit r t now bytes answer _ refl e (by_fit r [] now bytes _ refl h) x
+pub ok_read : {T : Type 0} (q : Request) (h : Held) (r : Result T ReadStop) (t : T) (file : Option (List ℕ)) (now : List ℕ) (answer : Answer) → r ≡ Ok t → Reads (read_answer file loop_file_limit) r [] now →
+    IsTextAnswer q h now answer → IsFileAnswer q h file answer
+ok_read q h r t None now answer e hx x = absurd (ok_err r t stop.NotHeld e hx)
+ok_read q h r t (Some bytes) now answer e hx x = ok_fit q h r t now bytes answer _ refl e (by_fit r [] now bytes _ refl hx) x
 
 -- the file is too long
-long_fit : {T : Type 0} (r : Result T ReadStop) (before now bytes : List ℕ) (answer : Answer) (b : Bool) → nat_le (length bytes) loop_file_limit ≡ b → r ≡ Err stop.TooLong →
-    Reads (if b then Ok bytes else Err stop.TooLong) r before now → answer ≡ refused (codes "loop file: over 65536 bytes") → IsFileAnswer (Some bytes) answer
-long_fit r before now bytes answer true is e h x = absurd (is_ok_err r stop.TooLong e h.0)
-long_fit r before now bytes answer false is e h x = subst (IsFileAnswer (Some bytes)) (sym x) (too_long (leb-false _ _ is))
+long_fit : {T : Type 0} (q : Request) (h : Held) (r : Result T ReadStop) (before now bytes : List ℕ) (answer : Answer) (b : Bool) → nat_le (length bytes) loop_file_limit ≡ b → r ≡ Err stop.TooLong →
+    Reads (if b then Ok bytes else Err stop.TooLong) r before now → answer ≡ refused (codes "loop file: over 65536 bytes") → IsFileAnswer q h (Some bytes) answer
+long_fit q h r before now bytes answer true is e hx x = absurd (is_ok_err r stop.TooLong e hx.0)
+long_fit q h r before now bytes answer false is e hx x = subst (IsFileAnswer q h (Some bytes)) (sym x) (too_long (leb-false _ _ is))
 
-pub long_read : {T : Type 0} (r : Result T ReadStop) (file : Option (List ℕ)) (before now : List ℕ) (answer : Answer) → r ≡ Err stop.TooLong → Reads (read_answer file loop_file_limit) r before now →
-    answer ≡ refused (codes "loop file: over 65536 bytes") → IsFileAnswer file answer
-long_read r None before now answer e h x = absurd (long_missing r e h)
-long_read r (Some bytes) before now answer e h x = long_fit r before now bytes answer _ refl e (by_fit r before now bytes _ refl h) x
+pub long_read : {T : Type 0} (q : Request) (h : Held) (r : Result T ReadStop) (file : Option (List ℕ)) (before now : List ℕ) (answer : Answer) → r ≡ Err stop.TooLong → Reads (read_answer file loop_file_limit) r before now →
+    answer ≡ refused (codes "loop file: over 65536 bytes") → IsFileAnswer q h file answer
+long_read q h r None before now answer e hx x = absurd (long_missing r e hx)
+long_read q h r (Some bytes) before now answer e hx x = long_fit q h r before now bytes answer _ refl e (by_fit r before now bytes _ refl hx) x
 
 -- the file isn't held
 missing_fit : {T : Type 0} (r : Result T ReadStop) (before now bytes : List ℕ) (b : Bool) → r ≡ Err stop.NotHeld → Reads (if b then Ok bytes else Err stop.TooLong) r before now → ⊥
@@ -68,43 +69,25 @@ pub missing_read : {T : Type 0} (r : Result T ReadStop) (file : Option (List ℕ
 missing_read r None before now e h = refl
 missing_read r (Some bytes) before now e h = absurd (missing_fit r before now bytes (nat_le (length bytes) loop_file_limit) e h)
 
--- from the file's answer to the name's
-pub no_name_answer : (n : Option (List ℕ)) (held : Held) (answer : Answer) → None ≡ n → answer ≡ not_built → IsNameAnswer n held answer
-no_name_answer n held answer e is = subst (λ m. IsNameAnswer m held answer) e (subst (IsNameAnswer None held) (sym is) no_name)
-
-named_ok : (n : Option (List ℕ)) (name : List ℕ) (held : Held) (r : Result Output OutputStop) → Some name ≡ n → IfOk r (λ o. IsFileAnswer (get held name) (answer_in o)) →
-    IfOk r (λ o. IsNameAnswer n held (answer_in o))
-named_ok n name held (Ok o) e h = subst (λ m. IsNameAnswer m held (answer_in o)) e (named h)
-named_ok n name held (Err s) e h = h
-
-pub named_answers : (n : Option (List ℕ)) (name : List ℕ) (held : Option Held) (r : Result Output OutputStop) → Some name ≡ n →
-    IfSome held (λ h. IfOk r (λ o. IsFileAnswer (get h name) (answer_in o))) → IfSome held (λ h. IfOk r (λ o. IsNameAnswer n h (answer_in o)))
-named_answers n name held r e h = every_of held _ _ (λ f. named_ok n name f r e) h
-
-pub named_missing : (n : Option (List ℕ)) (name : List ℕ) (held : Option Held) (A B : Type 0) → Some name ≡ n →
-    IfSome held (λ h. A → B → get h name ≡ None) → IfSome held (λ h. A → B → IsNameAnswer n h not_held)
-named_missing n name held A B e h =
-    every_of held _ _ (λ f missed a b. subst (λ m. IsNameAnswer m f not_held) e (named (subst (λ o. IsFileAnswer o not_held) (sym (missed a b)) missing))) h
-
--- from the request's answer to the words'
+-- from the file's answer to the words'
 request_answer : (words : List (List ℕ)) (r : Result Request (List ℕ)) (held : Held) (answer : Answer) → request_in words ≡ r → IsRequestAnswer r held answer → IsAnswer words held answer
 request_answer words r held answer e a = subst (λ x. IsRequestAnswer x held answer) (sym e) a
 
 pub refused_answer : (words : List (List ℕ)) (text : List ℕ) (held : Held) (answer : Answer) → request_in words ≡ Err text → answer ≡ refused text → IsAnswer words held answer
 refused_answer words text held answer e is = request_answer words (Err text) held answer e (subst (IsRequestAnswer (Err text) held) (sym is) no_request)
 
-asked_ok : (words : List (List ℕ)) (request : Request) (held : Held) (r : Result Output OutputStop) → request_in words ≡ Ok request →
-    IfOk r (λ o. IsNameAnswer (built_file request) held (answer_in o)) → IfOk r (λ o. IsAnswer words held (answer_in o))
-asked_ok words request held (Ok o) e h = request_answer words (Ok request) held (answer_in o) e (asked h)
-asked_ok words request held (Err s) e h = h
+asked_ok : (words : List (List ℕ)) (q : Request) (held : Held) (r : Result Output OutputStop) → request_in words ≡ Ok q →
+    IfOk r (λ o. IsFileAnswer q held (get held (loop_file q)) (answer_in o)) → IfOk r (λ o. IsAnswer words held (answer_in o))
+asked_ok words q held (Ok o) e h = request_answer words (Ok q) held (answer_in o) e (asked h)
+asked_ok words q held (Err s) e h = h
 
-pub asked_answers : (words : List (List ℕ)) (request : Request) (held : Option Held) (r : Result Output OutputStop) → request_in words ≡ Ok request →
-    IfSome held (λ h. IfOk r (λ o. IsNameAnswer (built_file request) h (answer_in o))) → IfSome held (λ h. IfOk r (λ o. IsAnswer words h (answer_in o)))
-asked_answers words request held r e h = every_of held _ _ (λ f. asked_ok words request f r e) h
+pub asked_answers : (words : List (List ℕ)) (q : Request) (held : Option Held) (r : Result Output OutputStop) → request_in words ≡ Ok q →
+    IfSome held (λ h. IfOk r (λ o. IsFileAnswer q h (get h (loop_file q)) (answer_in o))) → IfSome held (λ h. IfOk r (λ o. IsAnswer words h (answer_in o)))
+asked_answers words q held r e h = every_of held _ _ (λ f. asked_ok words q f r e) h
 
-pub asked_missing : (words : List (List ℕ)) (request : Request) (held : Option Held) (A B : Type 0) → request_in words ≡ Ok request →
-    IfSome held (λ h. A → B → IsNameAnswer (built_file request) h not_held) → IfSome held (λ h. A → B → IsAnswer words h not_held)
-asked_missing words request held A B e h = every_of held _ _ (λ f missed a b. request_answer words (Ok request) f not_held e (asked (missed a b))) h
+pub asked_missing : (words : List (List ℕ)) (q : Request) (held : Option Held) (A B : Type 0) → request_in words ≡ Ok q →
+    IfSome held (λ h. A → B → IsFileAnswer q h (get h (loop_file q)) not_held) → IfSome held (λ h. A → B → IsAnswer words h not_held)
+asked_missing words q held A B e h = every_of held _ _ (λ f missed a b. request_answer words (Ok q) f not_held e (asked (missed a b))) h
 
 pub long_not_failed : {T : Type 0} (r : Result T ReadStop) → r ≡ Err stop.TooLong → r ≢ Err stop.Failed
 long_not_failed r e f = absurd (cc)

@@ -1,33 +1,39 @@
 -- The answer of a call: its status and the text that it writes, from the words and what files hold. No thread,
 -- part or schedule is in it. Source: this project.
-use Rattle.std.specs.Prelude.{◌≡◌, ℕ, ◌<◌, ◌≤◌, List, [], ◌∷◌, ◌++◌, length, codes, Option, Some, None, Result, Ok, Err}
+use Rattle.std.specs.Prelude.{◌≡◌, ℕ, ◌<◌, ◌≤◌, List, [], length, codes, Option, Some, None, Result, Ok, Err}
 use Rattle.std.specs.FinMap.{get}
-use Rattle.std.specs.Fmt.{decimal}
 use Rattle.edge_io.specs.Reading.{Held}
-use Rattle.loop_data.specs.declared.tower.Kind.TheVariants as kind
-use Rattle.loop_values.specs.declared.stop.EvalStop.{EvalStop}
-use Rattle.loop_values.specs.declared.stop.EvalStop.TheVariants as stop
-use Rattle.loop_results.specs.ResultTexts.{result_text}
+use Rattle.program_words.specs.declared.command.Command.{Command}
+use Rattle.program_words.specs.declared.command.Command.TheVariants as command
+use Rattle.program_words.specs.Requests.{Request}
 use Rattle.loop_grammar.specs.declared.tree.ProgramTree.{ProgramTree}
 use Rattle.loop_grammar.specs.declared.refusal.SyntaxRefusal.{SyntaxRefusal}
 use Rattle.loop_grammar.specs.RefusalTexts.{syntax_text}
 use Rattle.loop_grammar.specs.Texts.{SpellsProgram, FirstRefusal}
-use Rattle.floop_run.specs.BuiltForm.{Loop, loop_of}
+use Rattle.legality_rules.specs.declared.refusal.Offence.{Offence}
+use Rattle.legality_rules.specs.Offences.{first_offence}
+use Rattle.legality_rules.specs.RefusalTexts.{offence_text}
+use Rattle.column_input.specs.Table.{Contents}
+use Rattle.data_files.specs.declared.stop.DataStop.{DataStop}
+use Rattle.data_files.specs.declared.stop.DataStop.TheVariants as reading
+use Rattle.data_files.specs.Tables.{data_table}
+use Rattle.data_files.specs.Texts.{data_text}
+use Rattle.loop_items.specs.declared.refusal.HeadRefusal.{HeadRefusal}
+use Rattle.loop_items.specs.Refusals.{first_head_refusal}
+use Rattle.loop_items.specs.RefusalTexts.{refusal_text}
+use Rattle.loop_data.specs.declared.value.Value.{Value}
+use Rattle.loop_meaning.specs.Items.{items_of}
+use Rattle.loop_meaning.specs.declared.runs.Run.{Run}
+use Rattle.loop_meaning.specs.declared.runs.PlainStop.{PlainStop}
+use Rattle.loop_meaning.specs.declared.runs.PlainStop.TheVariants as stop
 use Rattle.floop_run.specs.declared.status.Status.{Status}
 use Rattle.floop_run.specs.declared.status.Status.TheVariants as status
-use Rattle.floop_run.specs.Items.{items_of}
-use Rattle.floop_run.specs.PlainLoop.{Run, RunEnd, ran, faulted, start_store, loop_run, inputs_of}
-use Rattle.program_words.specs.Requests.{Request, request_of}
-use Rattle.program_words.specs.declared.command.Call.TheVariants as call
-use Rattle.floop_run.specs.Requests.{built_file}
+use Rattle.floop_run.specs.Requests.{request_in, loop_file, data_names}
+use Rattle.floop_run.specs.Results.{line, results_text, fault_line, whole_run, accepted_text}
 
 pub record Answer : Type 0 where
   pub status : Status
   pub text : List ℕ
-
--- a line with its LF
-abbrev pub line : List ℕ → List ℕ
-line text = text ++ 10 ∷ []
 
 -- a refusal is one line
 abbrev pub refused : List ℕ → Answer
@@ -37,65 +43,67 @@ refused text = record { status = status.Refused; text = line text }
 abbrev pub not_held : Answer
 not_held = record { status = status.ReadFault; text = [] }
 
--- the answer where a request isn't served yet, or a program isn't of the form that runs
-abbrev pub not_built : Answer
-not_built = refused (codes "form not built")
+-- what was done: the text
+abbrev pub done : List ℕ → Answer
+done text = record { status = status.Done; text = text }
 
 -- the most bytes of a loop file
 abbrev pub loop_file_limit : ℕ
 loop_file_limit = 65536
 
--- What a fault is called. Want of memory is no fault, and no value is it.
-abbrev pub fault_text : EvalStop → List ℕ
-fault_text stop.DivideError = codes "division error"
-fault_text stop.NotANumber = codes "not a number"
-fault_text stop.TooManyInner = codes "too many inner items"
-fault_text stop.TextTooLong = codes "text too long"
-fault_text stop.StepZero = codes "step is zero"
-fault_text stop.NoMemory = []
+-- ---- what runs
 
--- A run's answer: the result of the printed reducer's inputs, or the fault with its place and line.
-abbrev pub run_answer : Loop → Run → RunEnd → Answer
-run_answer loop run ran = record { status = status.Done; text = line (result_text kind.Sum (inputs_of run.emitted loop.reducer)) }
-run_answer loop run (faulted place at stop) =
-    record { status = status.LoopFault; text = line (codes "fault: item " ++ decimal place ++ codes ", line " ++ decimal at ++ codes ": " ++ fault_text stop) }
+-- the answer of a run that ended so
+abbrev pub ended_answer : ProgramTree → Run → PlainStop → Answer
+ended_answer program run stop.Ran = done (results_text program run)
+ended_answer program run (stop.Break at in_line) = done (results_text program run)
+ended_answer program run (stop.Fault at in_line kind) = record { status = status.LoopFault; text = fault_line at in_line kind }
 
--- the answer of the plain loop over all items, from place 1
-unfoldable pub loop_answer : Loop → Answer
-loop_answer loop = let run = loop_run loop (start_store loop) (items_of loop) 1 in run_answer loop run run.end
+abbrev pub run_answer : ProgramTree → Run → Answer
+run_answer program run = ended_answer program run run.stop
 
--- the answer for a program's loop, if it is of the form that runs
-abbrev pub built_answer : Option Loop → Answer
-built_answer None = not_built
-built_answer (Some loop) = loop_answer loop
+-- what the command writes of a legal program over its items
+abbrev pub command_answer : Command → ProgramTree → List Value → Answer
+command_answer command.Check program items = done (accepted_text program items)
+command_answer command.Run program items = run_answer program (whole_run program items)
 
-abbrev pub program_answer : ProgramTree → Answer
-program_answer program = built_answer (loop_of program)
+-- ---- refusals, in their order
+
+-- the head's first refusal, of its collections from left to right and then of its product; else what the command writes
+abbrev pub head_answer : Option HeadRefusal → Command → ProgramTree → Contents → Answer
+head_answer (Some why) asked program table = refused (refusal_text why)
+head_answer None asked program table = command_answer asked program (items_of program table)
+
+-- Why there is no table; else what follows from it. A read that failed and want of memory are no part of an answer.
+abbrev pub table_answer : Result Contents DataStop → Command → ProgramTree → Answer
+table_answer (Ok table) asked program = head_answer (first_head_refusal program table) asked program table
+table_answer (Err (reading.Refused why)) asked program = refused (data_text why)
+table_answer (Err _) asked program = not_held
+
+-- the first offence; else what follows from the data files
+abbrev pub legal_answer : Option Offence → Request → Held → ProgramTree → Answer
+legal_answer (Some offence) request held program = refused (offence_text offence)
+legal_answer None request held program = table_answer (data_table (data_names request) held) request.command program
+
+-- the answer of a request for the program that its loop file spells
+abbrev pub program_answer : Request → Held → ProgramTree → Answer
+program_answer request held program = legal_answer (first_offence program) request held program
 
 -- The answer for the text of a loop file, within the limit: its first refusal, or what its program gives.
-pub data IsTextAnswer : List ℕ → Answer → Type 0 where
-  refused_text : {text : List ℕ} {r : SyntaxRefusal} → FirstRefusal text r → IsTextAnswer text (refused (syntax_text r))
-  read : {text : List ℕ} {program : ProgramTree} → SpellsProgram text program → IsTextAnswer text (program_answer program)
+pub data IsTextAnswer : Request → Held → List ℕ → Answer → Type 0 where
+  refused_text : {request : Request} {held : Held} {text : List ℕ} {r : SyntaxRefusal} → FirstRefusal text r → IsTextAnswer request held text (refused (syntax_text r))
+  read : {request : Request} {held : Held} {text : List ℕ} {program : ProgramTree} → SpellsProgram text program → IsTextAnswer request held text (program_answer request held program)
 
 -- the answer for the bytes of the loop file, if it is held
-pub data IsFileAnswer : Option (List ℕ) → Answer → Type 0 where
-  missing : IsFileAnswer None not_held
-  too_long : {bytes : List ℕ} → loop_file_limit < length bytes → IsFileAnswer (Some bytes) (refused (codes "loop file: over 65536 bytes"))
-  within : {bytes : List ℕ} {answer : Answer} → length bytes ≤ loop_file_limit → IsTextAnswer bytes answer → IsFileAnswer (Some bytes) answer
-
--- the answer for the loop file of a request, if the request is served
-pub data IsNameAnswer : Option (List ℕ) → Held → Answer → Type 0 where
-  no_name : {held : Held} → IsNameAnswer None held not_built
-  named : {name : List ℕ} {held : Held} {answer : Answer} → IsFileAnswer (get held name) answer → IsNameAnswer (Some name) held answer
+pub data IsFileAnswer : Request → Held → Option (List ℕ) → Answer → Type 0 where
+  missing : {request : Request} {held : Held} → IsFileAnswer request held None not_held
+  too_long : {request : Request} {held : Held} {bytes : List ℕ} → loop_file_limit < length bytes → IsFileAnswer request held (Some bytes) (refused (codes "loop file: over 65536 bytes"))
+  within : {request : Request} {held : Held} {bytes : List ℕ} {answer : Answer} → length bytes ≤ loop_file_limit → IsTextAnswer request held bytes answer → IsFileAnswer request held (Some bytes) answer
 
 -- the answer for what the words are: the text of their first refusal, or what their request asks for
 pub data IsRequestAnswer : Result Request (List ℕ) → Held → Answer → Type 0 where
   no_request : {text : List ℕ} {held : Held} → IsRequestAnswer (Err text) held (refused text)
-  asked : {request : Request} {held : Held} {answer : Answer} → IsNameAnswer (built_file request) held answer → IsRequestAnswer (Ok request) held answer
-
--- what the words are to the program's call
-abbrev pub request_in : List (List ℕ) → Result Request (List ℕ)
-request_in words = request_of call.Direct words
+  asked : {request : Request} {held : Held} {answer : Answer} → IsFileAnswer request held (get held (loop_file request)) answer → IsRequestAnswer (Ok request) held answer
 
 -- The answer of a call with these words over these files.
 abbrev pub IsAnswer : List (List ℕ) → Held → Answer → Type 0
@@ -108,7 +116,3 @@ OneAnswer = (words : List (List ℕ)) (held : Held) (answer also : Answer) → I
 -- no words over files are without an answer
 abbrev pub SomeAnswer : Type 0
 SomeAnswer = (words : List (List ℕ)) (held : Held) → ((answer : Answer) → IsAnswer words held answer → ⊥) → ⊥
-
--- no loop of the form that runs faults
-abbrev pub BuiltLoopsAreDone : Type 0
-BuiltLoopsAreDone = (program : ProgramTree) (loop : Loop) → loop_of program ≡ Some loop → (program_answer program).status ≡ status.Done

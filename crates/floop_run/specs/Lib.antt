@@ -1,10 +1,6 @@
 pub mod Answers
-pub mod BuiltForm
-pub mod BuiltViews
-pub mod Inputs
-pub mod Items
 pub mod Outputs
-pub mod PlainLoop
 pub mod Requests
+pub mod Results
 pub mod StatusCodes
 pub mod TopCall

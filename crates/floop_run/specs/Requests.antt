@@ -1,13 +1,16 @@
 -- What a request asks of the program.
 -- Source: this project.
-use Rattle.std.specs.Prelude.{ℕ, Bool, true, false, ◌&&◌, List, [], is_none, unwrap_or, Option, Some, None, if◌then◌else◌}
-use Rattle.program_words.specs.declared.command.Command.{Command}
-use Rattle.program_words.specs.declared.command.Command.TheVariants as command
+use Rattle.std.specs.Prelude.{ℕ, List, [], unwrap_or, Option, Some, None, Result}
+use Rattle.program_words.specs.declared.command.Call.TheVariants as call
 use Rattle.program_words.specs.declared.setting.Setting.{Setting}
 use Rattle.program_words.specs.declared.setting.Setting.TheVariants as setting
-use Rattle.program_words.specs.Settings.{setting_name}
+use Rattle.program_words.specs.Settings.{setting_name, names_in}
 use Rattle.program_words.specs.Words.{value_in}
-use Rattle.program_words.specs.Requests.{Request}
+use Rattle.program_words.specs.Requests.{Request, request_of}
+
+-- what the words are to the program's call
+abbrev pub request_in : List (List ℕ) → Result Request (List ℕ)
+request_in words = request_of call.Direct words
 
 -- the value that a request gives to a setting, if it gives one
 abbrev pub value_of : Setting → Request → Option (List ℕ)
@@ -17,14 +20,10 @@ value_of s r = value_in (setting_name s) r.settings
 abbrev pub loop_file : Request → List ℕ
 loop_file r = unwrap_or (value_of setting.Loop r) []
 
-abbrev pub is_run : Command → Bool
-is_run command.Run = true
-is_run _ = false
+abbrev pub names_of : Option (List ℕ) → List (List ℕ)
+names_of None = []
+names_of (Some value) = names_in value
 
--- whether the request is one that is served: to run a loop without data files
-abbrev pub is_built_request : Request → Bool
-is_built_request r = is_run r.command && is_none (value_of setting.Data r)
-
--- the loop file of a request that is served
-abbrev pub built_file : Request → Option (List ℕ)
-built_file r = if is_built_request r then Some (loop_file r) else None
+-- the names of the data files, in order; where the setting isn't given there are none, and the table is that of no file
+abbrev pub data_names : Request → List (List ℕ)
+data_names r = names_of (value_of setting.Data r)

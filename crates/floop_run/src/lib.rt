@@ -2,17 +2,18 @@
 //!
 //! The clauses of [`floop_words`] are what floop is for: where files and sink tell their bytes and no fault is
 //! counted, the status and the bytes written are those of the answer, which specs/Answers defines: by the words, the
-//! first refusal of the loop file, and the plain loop of specs/PlainLoop.
+//! first refusal of the files, and the plain loop of loop_meaning.
 #![tactic(auto)]
 
+mod accepted;
 mod answer;
-mod form;
+mod data;
 mod laws;
 mod output;
-mod run;
+mod results;
 mod status;
 mod top;
 
-pub use laws::{built_loops_are_done, one_answer, some_answer};
+pub use laws::{one_answer, some_answer};
 pub use status::{Status, exit_code};
 pub use top::floop_words;

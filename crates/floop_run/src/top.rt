@@ -1,7 +1,8 @@
 ghost use Rattle.std.specs.Prelude.{◌≡◌, ◌≢◌, IfErr, IfSome, IsOk};
 ghost use Rattle.edge_io.specs.Faults.{Rose};
 ghost use Rattle.program_words.specs.Words.{texts};
-ghost use Rattle.floop_run.specs.Answers.{IsAnswer, request_in, refused, not_held};
+ghost use Rattle.floop_run.specs.Answers.{IsAnswer, refused, not_held};
+ghost use Rattle.floop_run.specs.Requests.{request_in};
 ghost use Rattle.floop_run.specs.TopCall.{Gives, GivesAnswer, PutsPrefixOf, PutsAnswerPrefix, IsAnswered};
 ghost use Rattle.floop_run.specs.Outputs.{answer_in};
 

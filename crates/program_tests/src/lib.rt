@@ -3,4 +3,11 @@
 #![tactic(auto)]
 
 #[cfg(test)]
-mod sums;
+mod edges;
+#[cfg(test)]
+mod refusals;
+pub mod run;
+#[cfg(test)]
+mod runs;
+#[cfg(test)]
+mod tables;

@@ -5,11 +5,11 @@ use Rattle.floop_run.proofs.answer.output_for.Goals as goal
 
 pub returns-in-Ok-clause-output : goal.returns-in-Ok-clause-output
 returns-in-Ok-clause-output g c =
-    asked_answers (texts c.args.words.now) (request_seen c.in-Ok.request) (g.F.Files.held c.args.files.now) c.request_output.result c.in-Ok.ensures.request c.request_output.ensures.output
+    asked_answers (texts c.args.words.now) (request_seen c.in-Ok.request) (g.F.Files.held c.args.files.now) c.loop_output.result c.in-Ok.ensures.request c.loop_output.ensures.output
 
 pub returns-in-Ok-clause-read_fault : goal.returns-in-Ok-clause-read_fault
 returns-in-Ok-clause-read_fault g c =
-    asked_missing (texts c.args.words.now) (request_seen c.in-Ok.request) (g.F.Files.held c.args.files.now) _ _ c.in-Ok.ensures.request c.request_output.ensures.read_fault
+    asked_missing (texts c.args.words.now) (request_seen c.in-Ok.request) (g.F.Files.held c.args.files.now) _ _ c.in-Ok.ensures.request c.loop_output.ensures.read_fault
 
 pub returns-in_ok-words_output-in-Err-clause-output : goal.returns-in_ok-words_output-in-Err-clause-output
 returns-in_ok-words_output-in-Err-clause-output g c =

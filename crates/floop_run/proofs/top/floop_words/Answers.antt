@@ -1,5 +1,5 @@
 use Rattle.program_words.specs.Words.{texts}
-use Rattle.floop_run.specs.Answers.{request_in}
+use Rattle.floop_run.specs.Requests.{request_in}
 use Rattle.floop_run.proofs.TopLemmas.{Gives-not_held, Gives-output, only_output, prefix_of_refused}
 use Rattle.floop_run.proofs.top.floop_words.Goals as goal
 

@@ -1,0 +1,66 @@
+-- The `@reduce` lines of a program, with the kinds of their towers, and which inputs fit the reducers.
+-- Source: this project.
+use Rattle.std.specs.Prelude.{◌≡◌, ℕ, Bool, true, false, if◌then◌else◌, List, [], ◌∷◌, ◌++◌, map, Option, Some, None}
+use Rattle.std.specs.Str.{bytes_eq}
+use Rattle.loop_data.specs.declared.value.Value.{Value}
+use Rattle.loop_data.specs.declared.tower.Kind.{Kind}
+use Rattle.loop_data.specs.declared.statement.Statement.{Statement}
+use Rattle.loop_data.specs.declared.statement.Branch.{Branch}
+use Rattle.loop_data.specs.declared.statement.Statement.TheOpen.{Statement-F, Statement-F as s, Branch-F}
+use Rattle.loop_data.specs.declared.statement.Statement.TheFolds.{fold-Statement, fold-Branch}
+use Rattle.loop_grammar.specs.declared.tree.ProgramTree.{ProgramTree}
+use Rattle.loop_values.specs.Fits.{fits_tower}
+use Rattle.tower_inputs.specs.Towers.{kind_of_tower}
+use Rattle.loop_meaning.specs.declared.steps.Emitted.{Emitted}
+
+-- an `@reduce` line: its reducer's name, the kind of its tower, and the value after `from`, if it has one
+pub record ReduceLine : Type 0 where
+  pub name : List ℕ
+  pub kind : Kind
+  pub start : Option Value
+
+abbrev pub all_lines : List (List ReduceLine) → List ReduceLine
+all_lines [] = []
+all_lines (lines ∷ more) = lines ++ all_lines more
+
+abbrev pub branch_lines : Branch-F (List ReduceLine) (List ReduceLine) → List ReduceLine
+branch_lines b = all_lines b.block
+
+-- one layer of a statement, given the `@reduce` lines of its parts
+abbrev pub lines_step : Statement-F (List ReduceLine) (List ReduceLine) → List ReduceLine
+lines_step (s.If line branches else_line other end_line) = all_lines branches ++ all_lines other
+lines_step (s.Reduce line name tower start) = record { name = name; kind = kind_of_tower tower; start = start } ∷ []
+lines_step _ = []
+
+abbrev pub lines_in : Statement → List ReduceLine
+lines_in = fold-Statement (List ReduceLine) (List ReduceLine) lines_step branch_lines
+
+abbrev pub lines_in_branch : Branch → List ReduceLine
+lines_in_branch = fold-Branch (List ReduceLine) (List ReduceLine) lines_step branch_lines
+
+-- the `@reduce` lines of a program, by rising lines
+abbrev pub reduce_lines : ProgramTree → List ReduceLine
+reduce_lines program = all_lines (map lines_in program.body)
+
+-- the kind of the first of these lines that has this name
+abbrev pub kind_among : List ReduceLine → List ℕ → Option Kind
+kind_among [] name = None
+kind_among (line ∷ lines) name = if bytes_eq line.name name then Some line.kind else kind_among lines name
+
+-- the kind of a reducer, by the first line of its name
+abbrev pub reducer_kind : ProgramTree → List ℕ → Option Kind
+reducer_kind program = kind_among (reduce_lines program)
+
+-- ---- inputs
+
+abbrev pub fits_kind : Option Kind → Value → Bool
+fits_kind None input = false
+fits_kind (Some kind) input = fits_tower kind input
+
+-- whether the pair's name is a reducer's, and its input has the form and the kinds that this reducer's tower takes
+abbrev pub fits_reducer : ProgramTree → Emitted → Bool
+fits_reducer program pair = fits_kind (reducer_kind program pair.name) pair.input
+
+abbrev pub StartFits : Option Value → Kind → Type 0
+StartFits None kind = Unit {0}
+StartFits (Some start) kind = fits_tower kind start ≡ true

@@ -1,0 +1,102 @@
+-- What a run comes to: a line for each `print` line, or its fault.
+-- Source: this project.
+use Rattle.std.specs.Prelude.{ℕ, Bool, true, false, ◌==◌, if◌then◌else◌, List, [], ◌∷◌, ◌++◌, map, flat_map, length, codes, Option, Some, None}
+use Rattle.std.specs.Str.{bytes_eq}
+use Rattle.std.specs.Fmt.{decimal}
+use Rattle.loop_data.specs.declared.value.Value.{Value}
+use Rattle.loop_data.specs.declared.tower.Kind.{Kind}
+use Rattle.loop_data.specs.declared.head.PrintLine.{PrintLine}
+use Rattle.loop_data.specs.declared.statement.Statement.{Statement}
+use Rattle.loop_data.specs.declared.statement.Statement.TheOpen.{Statement-F, Statement-F as s, Branch-F}
+use Rattle.loop_data.specs.declared.statement.Statement.TheFolds.{fold-Statement}
+use Rattle.loop_results.specs.ResultTexts.{result_text}
+use Rattle.tower_inputs.specs.Towers.{kind_of_tower}
+use Rattle.loop_grammar.specs.declared.tree.ProgramTree.{ProgramTree}
+use Rattle.loop_grammar.specs.SkippedFaults.{skips_faults}
+use Rattle.loop_meaning.specs.declared.steps.Emitted.{Emitted}
+use Rattle.loop_meaning.specs.declared.runs.Run.{Run}
+use Rattle.loop_meaning.specs.Stores.{start_store}
+use Rattle.loop_meaning.specs.Runs.{loop_run}
+use Rattle.loop_meaning.specs.Reducers.{inputs_of, reducers_of}
+
+-- a line with its LF
+abbrev pub line : List ℕ → List ℕ
+line text = text ++ 10 ∷ []
+
+-- ---- the kinds of reducers
+
+-- an `@reduce` line: the reducer's name and the kind of its tower
+pub record Reducer : Type 0 where
+  pub name : List ℕ
+  pub kind : Kind
+
+abbrev pub all_reducers : List (List Reducer) → List Reducer
+all_reducers [] = []
+all_reducers (rs ∷ more) = rs ++ all_reducers more
+
+abbrev pub branch_reducers : Branch-F (List Reducer) (List Reducer) → List Reducer
+branch_reducers b = all_reducers b.block
+
+-- one layer of a statement, given the `@reduce` lines of its parts
+abbrev pub reducers_step : Statement-F (List Reducer) (List Reducer) → List Reducer
+reducers_step (s.If line branches else_line other end_line) = all_reducers branches ++ all_reducers other
+reducers_step (s.Reduce line name tower start) = record { name = name; kind = kind_of_tower tower } ∷ []
+reducers_step _ = []
+
+-- the `@reduce` lines of a program, by rising lines
+abbrev pub reduce_lines : ProgramTree → List Reducer
+reduce_lines program = all_reducers (map (fold-Statement (List Reducer) (List Reducer) reducers_step branch_reducers) program.body)
+
+abbrev pub kind_among : List Reducer → List ℕ → Option Kind
+kind_among [] name = None
+kind_among (r ∷ rs) name = if bytes_eq r.name name then Some r.kind else kind_among rs name
+
+-- the kind of a reducer, by the first line of its name
+abbrev pub reducer_kind : ProgramTree → List ℕ → Option Kind
+reducer_kind program = kind_among (reduce_lines program)
+
+-- ---- results
+
+-- the result text of the inputs of a reducer; a name that is no reducer, which no legal program prints, has none
+abbrev pub text_of : Option Kind → List Value → List ℕ
+text_of None inputs = []
+text_of (Some kind) inputs = result_text kind inputs
+
+-- the line of a `print` line, given what counts of what the run emitted
+abbrev pub result_line : ProgramTree → List Emitted → PrintLine → List ℕ
+result_line program emitted print = line (text_of (reducer_kind program print.name) (inputs_of program emitted print.name))
+
+-- how many faults were skipped, in a program that skips them
+abbrev pub skipped_line : Bool → ℕ → List ℕ
+skipped_line true skipped = line (codes "faults: " ++ decimal skipped)
+skipped_line false skipped = []
+
+-- the lines of a run that ran to its end or broke: a result a `print` line, in order, and then the number of skipped faults
+abbrev pub results_text : ProgramTree → Run → List ℕ
+results_text program run = flat_map (result_line program run.emitted) program.prints ++ skipped_line (skips_faults program) run.skipped
+
+-- ---- faults
+
+-- what a fault of this kind is called
+abbrev pub fault_text : ℕ → List ℕ
+fault_text kind =
+    if kind == 1 then codes "division error"
+    else if kind == 2 then codes "not a number"
+    else if kind == 3 then codes "too many inner items"
+    else if kind == 4 then codes "text too long"
+    else codes "step is zero"
+
+-- the line of the fault that stopped the run: its item's place, its line and what it is called
+abbrev pub fault_line : ℕ → ℕ → ℕ → List ℕ
+fault_line at in_line kind = line (codes "fault: item " ++ decimal at ++ codes ", line " ++ decimal in_line ++ codes ": " ++ fault_text kind)
+
+-- ---- the whole
+
+-- the plain loop over all items, from the store in which it begins and place 1
+abbrev pub whole_run : ProgramTree → List Value → Run
+whole_run program items = loop_run program (start_store program) items 1
+
+-- what `check` writes: how many items and how many reducers there are
+abbrev pub accepted_text : ProgramTree → List Value → List ℕ
+accepted_text program items =
+    line (codes "accepted: " ++ decimal (length items) ++ codes " items, " ++ decimal (length (reducers_of program)) ++ codes " reducers")

@@ -1,0 +1,112 @@
+//! What `run` writes: the results, or the fault.
+
+ghost use Rattle.std.specs.Prelude.{◌≡◌, ◌<◌, ◌≤◌, IfOk, flat_map, string_bytes};
+ghost use Rattle.loop_meaning.specs.declared.runs.Run.{Run};
+ghost use Rattle.plain_path.specs.Paths.{IsDone, run_over};
+ghost use Rattle.plain_path.specs.Rows.{row_of as row_in};
+ghost use Rattle.floop_run.specs.Results.{fault_text, fault_line, result_line, results_text, whole_run};
+ghost use Rattle.floop_run.specs.Answers.{done, run_answer};
+ghost use Rattle.floop_run.specs.TopCall.{IsAnswered, joined};
+ghost use Rattle.floop_run.specs.Outputs.{answer_in};
+
+use crate::Status;
+use crate::answer::{Output, one_line};
+use edge_io::NoMemory;
+use legality_check::LegalProgram;
+use loop_data::PrintLine;
+use loop_items::HeadItems;
+use plain_path::{PathEnd, fold_plain, row_of};
+use reducer_tower::{Row, RowState, RowStop};
+use std::alloc::{AllocError, Global};
+
+/// What a fault of this kind is called.
+fn fault_text(kind: u8) -> &'static str
+    ensures { result.now ≡ fault_text kind }
+{
+    match kind {
+        1 => "division error",
+        2 => "not a number",
+        3 => "too many inner items",
+        4 => "text too long",
+        _ => "step is zero",
+    }
+}
+
+/// The line of a fault.
+fn fault_line(alloc: Global, at: u64, line: u32, kind: u8) -> Result<String, AllocError>
+    ensures { IfOk result (λ text. string_bytes text ≡ fault_line at line kind) }
+{
+    let text = fault_text(kind);
+    format!(in alloc; "fault: item {at}, line {line}: {text}\n")
+}
+
+/// The line of a `print` line: the result of the reducer of that name.
+fn result_line(
+    alloc: Global,
+    row: &Row,
+    state: &RowState,
+    print: &PrintLine,
+) -> Result<Vec<u8>, NoMemory> {
+    match row.text(alloc, state, print.name.as_str()) {
+        Ok(text) => {
+            let mut line = text;
+            line.push(b'\n')?;
+            Ok(line)
+        }
+        Err(RowStop::NoSuchName) => Ok(vec![in alloc; b'\n']?),
+        Err(RowStop::NoMemory) => Err(NoMemory),
+    }
+}
+
+/// A line for each `print` line, in order.
+fn result_lines(
+    alloc: Global,
+    row: &Row,
+    state: &RowState,
+    prints: &[PrintLine],
+) -> Result<Vec<Vec<u8>>, NoMemory> {
+    let mut lines = Vec::with_capacity(alloc, prints.len())?;
+    for print in prints {
+        lines.push(result_line(alloc, row, state, print)?)?;
+    }
+    Ok(lines)
+}
+
+/// The results, and in a program that skips faults how many it skipped.
+fn done_output(
+    alloc: Global,
+    legal: &LegalProgram,
+    row: &Row,
+    state: &RowState,
+    skipped: u64,
+) -> Result<Output, NoMemory> {
+    let program = legal.program();
+    let mut lines = result_lines(alloc, row, state, program.prints().as_slice())?;
+    if program.skips_faults() {
+        let line = format!(in alloc; "faults: {skipped}\n")?;
+        lines.push(line.into_bytes())?;
+    }
+    Ok(Output {
+        status: Status::Done,
+        lines,
+    })
+}
+
+/// The output of a run over the items of a head.
+pub(crate) fn run_output(
+    alloc: Global,
+    legal: &LegalProgram,
+    head: &HeadItems<'_>,
+) -> Result<Output, NoMemory>
+    ensures answer { IfOk result (λ o. answer_in o ≡ run_answer legal.now (whole_run legal.now head.now.items)) }
+    ensures answered { IfOk result (λ o. IsAnswered o.status) }
+{
+    let row = row_of(alloc, legal.program())?;
+    match fold_plain(alloc, legal.program(), head, &row)? {
+        PathEnd::Done { state, skipped } => done_output(alloc, legal, &row, &state, skipped),
+        PathEnd::Faulted { at, line, kind } => {
+            let line = fault_line(alloc, at, line, kind)?;
+            one_line(alloc, Status::LoopFault, line)
+        }
+    }
+}

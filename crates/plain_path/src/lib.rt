@@ -1,0 +1,12 @@
+//! The plain loop over a head, folded into a row: the reference path, on one thread.
+//!
+//! The items are made one after another by their places, each goes through one step of the body on one store that lives on, and what
+//! the step emits is folded into the states of a row of the program's reducers. So nothing is kept for an item, but what `list` and
+//! `group` keep.
+#![tactic(auto)]
+
+mod fold;
+mod row;
+
+pub use fold::{PathEnd, fold_plain};
+pub use row::row_of;
