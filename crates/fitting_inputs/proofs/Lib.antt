@@ -1,0 +1,10 @@
+pub mod BlockLemmas
+pub mod EntryFacts
+pub mod FreshNames
+pub mod HeadScopes
+pub mod ItemLemmas
+pub mod LegalRuns
+pub mod PatternLemmas
+pub mod RunLemmas
+pub mod StepLemmas
+pub mod StoreLemmas
