@@ -6,13 +6,14 @@ use Rattle.std.proofs.lemmas.Bool.{and_parts, eqb-true}
 use Rattle.loop_data.specs.ValueParts.{parts_of}
 use Rattle.loop_data.specs.declared.value.Value.{Value, the_lemmas as value_lemmas}
 use Rattle.loop_data.specs.declared.value.Value.TheVariants as value
-use Rattle.loop_data.specs.declared.value.ValueKind.{ValueKind, out-ValueKind, roll-ValueKind, the_lemmas as kind_lemmas}
+use Rattle.loop_data.specs.declared.value.ValueKind.{ValueKind, out-ValueKind, roll-ValueKind}
 use Rattle.loop_data.specs.declared.value.ValueKind.TheVariants as kind
 use Rattle.loop_data.specs.declared.value.ValueKind.TheOpen.{ValueKind-F, ValueKind-F as k}
 use Rattle.loop_values.specs.Bindings.{Bindings}
 use Rattle.loop_values.specs.Fits.{all_fit, fits}
 use Rattle.loop_values.specs.Kinds.{Kinds}
 use Rattle.loop_values.proofs.PlainLemmas.{tuple_fits}
+use Rattle.loop_values.proofs.SoundLemmas.{rolled}
 use Rattle.tower_inputs.specs.Laws.{HasPlace}
 use Rattle.legality_rules.specs.declared.scope.Known.{Known}
 use Rattle.legality_rules.specs.declared.scope.Sort.{Sort}
@@ -26,19 +27,13 @@ Name = List ℕ
 
 -- ---- the parts of a value that fits a tuple of kinds
 
-rolled_kind : (x : ValueKind) → roll-ValueKind (out-ValueKind x) ≡ x
-rolled_kind x = search (rules, kind_lemmas)
-
-roll-Tuple : (xs : List ValueKind) → roll-ValueKind (k.Tuple xs) ≡ kind.Tuple xs
-roll-Tuple xs = search (rules, kind_lemmas)
-
 parts_of-Tuple : (vs : List Value) → parts_of (value.Tuple vs) ≡ vs
 parts_of-Tuple vs = search (rules, value_lemmas)
 
 parts_fit_at : (z : ValueKind-F ValueKind) (x : ValueKind) (v : Value) → out-ValueKind x ≡ z → 0 < length (parts_at z) → fits x v ≡ true →
     all_fit (map fits (parts_at z)) (parts_of v) ≡ true
 parts_fit_at (k.Tuple xs) x v is some fit =
-    let same : x ≡ kind.Tuple xs = sym (rolled_kind x) ∙ ap roll-ValueKind is ∙ roll-Tuple xs in
+    let same : x ≡ kind.Tuple xs = sym (rolled x) ∙ ap roll-ValueKind is ∙ kind.rolls-Tuple xs in
     let parts = tuple_fits xs v (subst (λ y. fits y v ≡ true) same fit) in
     subst (λ vs. all_fit (map fits xs) vs ≡ true) (sym (parts_of-Tuple parts.parts) ∙ ap parts_of (sym parts.is)) parts.fit
 parts_fit_at k.Int x v is some fit = absurd (omega arith)
