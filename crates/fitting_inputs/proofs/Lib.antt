@@ -4,6 +4,7 @@ pub mod FreshNames
 pub mod HeadScopes
 pub mod ItemLemmas
 pub mod LegalRuns
+pub mod NameLemmas
 pub mod PatternLemmas
 pub mod RunLemmas
 pub mod StepLemmas
