@@ -51,9 +51,15 @@ of_inner program = map inner_known program.head.inner
 abbrev pub of_scratches : ProgramTree → Scope
 of_scratches program = map (literal_known Scratch) program.scratch
 
--- the names in scope before the body
+-- the names in scope after the pattern, after all heads, and before the body
+abbrev pub after_pattern : ProgramTree → Scope
+after_pattern program = of_vars program ++ of_pattern program
+
+abbrev pub after_heads : ProgramTree → Scope
+after_heads program = after_pattern program ++ of_inner program
+
 abbrev pub before_body : ProgramTree → Scope
-before_body program = ((of_vars program ++ of_pattern program) ++ of_inner program) ++ of_scratches program
+before_body program = after_heads program ++ of_scratches program
 
 -- what a program's entries say, where they fit
 pub record PartsFit (test : Test) (program : ProgramTree) : Type 0 where
@@ -115,11 +121,11 @@ module _ (test : Test) (program : ProgramTree) where
       names_fresh scope (of_pattern program)
       (subst (AreFresh scope) (sym (pattern_names LoopVariable program.head.names (pattern_kinds program.head.names (item_kind program.head.product program.head.axes)))) fresh)
 
-  before_scratches : scope_after (vars ++ heads) [] ≡ (of_vars program ++ of_pattern program) ++ of_inner program
-  before_scratches = scope_of_two vars heads [] ∙ ap (scope_after heads) (vars_scope []) ∙ inner_scope (of_vars program ++ of_pattern program)
+  before_scratches : scope_after (vars ++ heads) [] ≡ after_heads program
+  before_scratches = scope_of_two vars heads [] ∙ ap (scope_after heads) (vars_scope []) ∙ inner_scope (after_pattern program)
 
   body_scope : scope_after ((vars ++ heads) ++ scratches) [] ≡ before_body program
-  body_scope = scope_of_two (vars ++ heads) scratches [] ∙ ap (scope_after scratches) before_scratches ∙ scratches_scope ((of_vars program ++ of_pattern program) ++ of_inner program)
+  body_scope = scope_of_two (vars ++ heads) scratches [] ∙ ap (scope_after scratches) before_scratches ∙ scratches_scope (after_heads program)
 
   pub parts_fit : Fit (entries_of program) → PartsFit test program
   parts_fit fit =
@@ -127,15 +133,15 @@ module _ (test : Test) (program : ProgramTree) where
       let to_scratches = front_fits ((vars ++ heads) ++ scratches) statements [] to_body in
       let to_heads = front_fits (vars ++ heads) scratches [] to_scratches in
       let of_heads : Fit (in_turn heads (of_vars program)) = subst (λ s. Fit (in_turn heads s)) (vars_scope []) (back_fits vars heads [] to_heads) in
-      let of_scratches_too : Fit (in_turn scratches ((of_vars program ++ of_pattern program) ++ of_inner program)) =
+      let of_scratches_too : Fit (in_turn scratches (after_heads program)) =
       subst (λ s. Fit (in_turn scratches s)) before_scratches (back_fits (vars ++ heads) scratches [] to_scratches) in
-      let two : ComeFresh [] (of_vars program ++ of_pattern program) =
+      let two : ComeFresh [] (after_pattern program) =
       fresh_joined [] (of_vars program) (of_pattern program) (vars_fresh [] (front_fits vars heads [] to_heads)) (pattern_fresh (of_vars program) of_heads.0.says.0) in
-      let three : ComeFresh [] ((of_vars program ++ of_pattern program) ++ of_inner program) =
-      fresh_joined [] (of_vars program ++ of_pattern program) (of_inner program) two (inner_fresh (of_vars program ++ of_pattern program) of_heads.1) in
+      let three : ComeFresh [] (after_heads program) =
+      fresh_joined [] (after_pattern program) (of_inner program) two (inner_fresh (after_pattern program) of_heads.1) in
       record {
-        fresh = fresh_joined [] ((of_vars program ++ of_pattern program) ++ of_inner program) (of_scratches program) three
-            (scratches_fresh ((of_vars program ++ of_pattern program) ++ of_inner program) of_scratches_too);
+        fresh = fresh_joined [] (after_heads program) (of_scratches program) three
+            (scratches_fresh (after_heads program) of_scratches_too);
         takes = of_heads.0.says.1;
         body = subst (λ s. Fit (in_turn statements s)) body_scope (back_fits ((vars ++ heads) ++ scratches) statements [] to_body);
       }

@@ -33,7 +33,7 @@ use Rattle.loop_meaning.specs.Stores.{start_store, stored_names, variables}
 use Rattle.fitting_inputs.specs.Fitting.{EntryFits, Test}
 use Rattle.fitting_inputs.specs.Laws.{most_places}
 use Rattle.fitting_inputs.proofs.FreshNames.{AreTold, IsTold, all_back, all_both, all_front, fresh_told}
-use Rattle.fitting_inputs.proofs.HeadScopes.{PartsFit, before_body, of_inner, of_pattern, of_scratches, of_vars, parts_fit}
+use Rattle.fitting_inputs.proofs.HeadScopes.{PartsFit, after_heads, after_pattern, before_body, of_inner, of_pattern, of_scratches, of_vars, parts_fit}
 use Rattle.fitting_inputs.proofs.ItemLemmas.{items_fit}
 use Rattle.fitting_inputs.proofs.PatternLemmas.{BoundWith, pattern_bound}
 use Rattle.fitting_inputs.proofs.StepLemmas.{StandsFit, heads_fit}
@@ -77,17 +77,17 @@ module _ (test : Test) (program : ProgramTree) (parts : PartsFit test program) w
   all_told : AreTold kinds scope
   all_told = fresh_told [] scope parts.fresh
 
-  told_to_inner : AreTold kinds ((of_vars program ++ of_pattern program) ++ of_inner program)
-  told_to_inner = all_front (IsTold kinds) ((of_vars program ++ of_pattern program) ++ of_inner program) (of_scratches program) all_told
+  told_to_inner : AreTold kinds (after_heads program)
+  told_to_inner = all_front (IsTold kinds) (after_heads program) (of_scratches program) all_told
 
   told_scratches : AreTold kinds (of_scratches program)
-  told_scratches = all_back (IsTold kinds) ((of_vars program ++ of_pattern program) ++ of_inner program) (of_scratches program) all_told
+  told_scratches = all_back (IsTold kinds) (after_heads program) (of_scratches program) all_told
 
-  told_to_pattern : AreTold kinds (of_vars program ++ of_pattern program)
-  told_to_pattern = all_front (IsTold kinds) (of_vars program ++ of_pattern program) (of_inner program) told_to_inner
+  told_to_pattern : AreTold kinds (after_pattern program)
+  told_to_pattern = all_front (IsTold kinds) (after_pattern program) (of_inner program) told_to_inner
 
   told_inner : AreTold kinds (of_inner program)
-  told_inner = all_back (IsTold kinds) (of_vars program ++ of_pattern program) (of_inner program) told_to_inner
+  told_inner = all_back (IsTold kinds) (after_pattern program) (of_inner program) told_to_inner
 
   told_vars : AreTold kinds (of_vars program)
   told_vars = all_front (IsTold kinds) (of_vars program) (of_pattern program) told_to_pattern
@@ -103,8 +103,8 @@ module _ (test : Test) (program : ProgramTree) (parts : PartsFit test program) w
   all_bound env some inner =
       let names = all_front (IsBound env) (of_pattern program) stored some in
       let kept = all_back (IsBound env) (of_pattern program) stored some in
-      all_both (IsBound env) ((of_vars program ++ of_pattern program) ++ of_inner program) (of_scratches program)
-      (all_both (IsBound env) (of_vars program ++ of_pattern program) (of_inner program)
+      all_both (IsBound env) (after_heads program) (of_scratches program)
+      (all_both (IsBound env) (after_pattern program) (of_inner program)
       (all_both (IsBound env) (of_vars program) (of_pattern program) (all_front (IsBound env) (of_vars program) (of_scratches program) kept) names) inner)
       (all_back (IsBound env) (of_vars program) (of_scratches program) kept)
 

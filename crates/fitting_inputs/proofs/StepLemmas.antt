@@ -47,11 +47,13 @@ each_fits test some one h (x ∷ xs) = record { fit = λ run s. (each_fits test 
     first run s true = (h x).fit run s
     first run s false = s
 
+-- what is done with the items of a range; a fault in the range leaves the names as they are
 with_items_fit : (test : Test) (some : Scope) (line : ℕ) (o : Result (List ℤ) EvalStop) (next : List ℤ → Action) → ((items : List ℤ) → KeepsFit test some (next items)) →
     KeepsFit test some (with_items line o next)
 with_items_fit test some line (Ok items) next h = h items
 with_items_fit test some line (Err stop) next h = record { fit = λ run s. record { bound = s.bound; placed = s.placed; emitted = s.emitted } }
 
+-- a number fits a kind that is Int
 int_fits : (known : Known) (item : ℤ) → known.kind ≡ Some kind.Int → (x : ValueKind) → known.kind ≡ Some x → fits x (Int item) ≡ true
 int_fits known item int x is = subst (λ y. fits y (Int item) ≡ true) (some_is kind.Int x (sym int ∙ is)) (fits-Int item)
 
@@ -91,7 +93,7 @@ module _ (test : Test) (program : ProgramTree) (lines : AllByRecursion (EntryFit
         };
   }
 
-  -- The body runs of these inner heads, where `some` with the names of these are all names in scope before the body.
+  -- The body runs of these inner heads, where `some` with the names of these are all names in scope before the body
   pub heads_fit : (heads : List Inner) (some : Scope) (width : ℕ) → AreTold kinds some → AreTold kinds (map inner_known heads) →
       ((env : Bindings) → AreBound env some → AreBound env (map inner_known heads) → AreBound env scope) → KeepsFit test some (inner_runs program heads width)
   heads_fit [] some width others heads_told all = record {
