@@ -13,7 +13,7 @@ use Rattle.loop_values.specs.Values.{value_of}
 use Rattle.loop_values.proofs.SoundLemmas.{fits-Int, fits-Text, fits-Tuple}
 use Rattle.column_input.specs.Table.{column_of}
 use Rattle.legality_rules.specs.Scopes.{axis_kind, axis_step as axis_kind_step, item_kind, only_kind}
-use Rattle.loop_meaning.specs.Items.{Listing, Sources, all_items, axis_items, axis_step, column_items, combinations, head_items, in_front, number_of, numbers, only_axis, side_by_side, step_number}
+use Rattle.loop_meaning.specs.Items.{Listing, Sources, all_items, axis_items, axis_step, column_items, combinations, in_front, number_of, numbers, only_axis, side_by_side, step_number}
 use Rattle.fitting_inputs.specs.Laws.{ItemsFit}
 
 -- ---- lists of values, and rows of them

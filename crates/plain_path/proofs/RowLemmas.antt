@@ -1,38 +1,35 @@
--- The row of a program: which tower stands under a name, the names of the towers, and the inputs of a tower.
-use Rattle.std.proofs.Common.{◌≡◌, ℕ, ◌<◌, ◌≤◌, suc, zero, Bool, true, false, cond, Option, Some, None, List, [], ◌∷◌, ◌++◌, length, map, filter, refl, ap, ap₂, sym, subst, ◌∙◌, append-nil, append_assoc, arith, eq-eqb, rules}
-use Rattle.std.specs.Prelude.{◌==◌, if◌then◌else◌, nat_lt, option_and_then, slice_get}
+-- The row of a program: which tower stands under a name, and the names of the towers.
+use Rattle.std.proofs.Common.{◌≡◌, ℕ, ◌<◌, ◌≤◌, suc, zero, Bool, true, false, cond, Option, Some, None, List, [], ◌∷◌, ◌++◌, length, map, refl, ap, sym, ◌∙◌, append-nil, append_assoc, arith, rules}
+use Rattle.std.specs.Prelude.{◌||◌, if◌then◌else◌, is_some, nat_lt, option_and_then, slice_get}
 use Rattle.std.specs.List.{find, list_any, position, position_or_len}
 use Rattle.std.specs.Str.{bytes_eq}
-use Rattle.std.proofs.lemmas.Bool.{eqb-true}
 use Rattle.std.proofs.lemmas.Bool.Decides.{nat_tests}
-use Rattle.std.proofs.lemmas.List.{map-append}
-use Rattle.std.proofs.lemmas.List.Elements.{filter-append}
+use Rattle.std.proofs.lemmas.List.{length-map, map-append}
+use Rattle.std.proofs.lemmas.List.Folds.{find_at}
+use Rattle.std.proofs.lemmas.List.Quantifiers.{position-Some}
 use Rattle.std.proofs.lemmas.Option.{slice_get_past}
 use Rattle.std.proofs.lemmas.Slice.Eq.{bytes_eq-Decides}
 use Rattle.loop_data.specs.declared.value.Value.{Value}
 use Rattle.loop_data.specs.declared.tower.Kind.{Kind}
 use Rattle.loop_grammar.specs.declared.tree.ProgramTree.{ProgramTree}
 use Rattle.loop_meaning.specs.declared.reducers.Site.{Site}
-use Rattle.loop_meaning.specs.declared.steps.Emitted.{Emitted as Pair}
 use Rattle.loop_meaning.specs.Chosen.{with_name}
-use Rattle.loop_meaning.specs.Reducers.{each_once, emitted_under, inputs_of, or_none, reducers_of, sites_of, start_among, start_of}
+use Rattle.loop_meaning.specs.Reducers.{each_once, reducers_of, start_among, start_of}
 use Rattle.loop_meaning.proofs.OnceLemmas.{once_more}
 use Rattle.reducer_tower.specs.declared.named.Named.{Named}
-use Rattle.reducer_tower.specs.declared.row.Emitted.{Emitted}
-use Rattle.reducer_tower.specs.Rows.{number_of, started_by, starts_of}
-use Rattle.reducer_tower.specs.Rows as towers
-use Rattle.reducer_tower.proofs.RowLemmas.{starts_come_first}
+use Rattle.reducer_tower.specs.Rows.{number_of}
 use Rattle.fitting_inputs.specs.ReduceLines.{ReduceLine, kind_among, reduce_lines, reducer_kind}
 use Rattle.fitting_inputs.specs.Laws.{site}
 use Rattle.fitting_inputs.proofs.SiteLemmas.{lines_are_sites}
-use Rattle.plain_path.specs.Rows.{input_for, named_line, numbered, row_of, unless_there, with_line, with_lines}
+use Rattle.plain_path.specs.Laws.{OthersHaveNoTower, RowHasReducers, RowKeepsFirstLines}
+use Rattle.plain_path.specs.Rows.{named_line, row_of, unless_there, with_line, with_lines}
 
 -- ---- names and places
 
-same : (m n : List ℕ) → bytes_eq m n ≡ true → m ≡ n
+pub same : (m n : List ℕ) → bytes_eq m n ≡ true → m ≡ n
 same m n e = search (rules, bytes_eq-Decides m n)
 
-itself : (n : List ℕ) → bytes_eq n n ≡ true
+pub itself : (n : List ℕ) → bytes_eq n n ≡ true
 itself n = search (rules, bytes_eq-Decides n n)
 
 not_less : (i n : ℕ) → nat_lt i n ≡ false → n ≤ i
@@ -46,23 +43,24 @@ at_place p xs = at (nat_lt (position_or_len p xs) (length xs)) refl ∙ sym (fin
     at true e = refl
     at false e = sym (slice_get_past xs (position_or_len p xs) (not_less (position_or_len p xs) (length xs) e))
 
+within : {A : Type 0} (xs : List A) (i : ℕ) → i < length xs → (x : A) × (slice_get xs i ≡ Some x)
+within [] i lt = absurd (omega arith)
+within (x ∷ xs) zero lt = (x, refl)
+within (x ∷ xs) (suc i) lt = within xs i (omega arith)
+
 -- what stands at the first place that passes
 some_at : {A : Type 0} (p : A → Bool) (xs : List A) (i : ℕ) → position p xs ≡ Some i → (x : A) × (slice_get xs i ≡ Some x)
-some_at p xs i e = within xs i (position_within p xs i e)
-  where
-    within : {A : Type 0} (xs : List A) (i : ℕ) → i < length xs → (x : A) × (slice_get xs i ≡ Some x)
-    within [] i lt = absurd (omega arith)
-    within (x ∷ xs) zero lt = (x, refl)
-    within (x ∷ xs) (suc i) lt = within xs i (omega arith)
+some_at p [] i e = absurd (cc)
+some_at p (x ∷ xs) i e = within (x ∷ xs) i (position-Some p (x ∷ xs) i x e).0
 
 -- what is found passes
-found_passes : {A : Type 0} (p : A → Bool) (xs : List A) (x : A) → find p xs ≡ Some x → p x ≡ true
+pub found_passes : {A : Type 0} (p : A → Bool) (xs : List A) (x : A) → find p xs ≡ Some x → p x ≡ true
 found_passes p [] x e = absurd (cc)
-found_passes p (y ∷ xs) x e = at (p y) refl e
+found_passes p (y ∷ xs) x e = at (p y) refl (found_passes p xs x) e
   where
-    at : (b : Bool) → p y ≡ b → cond b (Some y) (find p xs) ≡ Some x → p x ≡ true
-    at true is f = let here : y ≡ x = cc in ap p (sym here) ∙ is
-    at false is f = found_passes p xs x f
+    at : (b : Bool) → p y ≡ b → (find p xs ≡ Some x → p x ≡ true) → cond b (Some y) (find p xs) ≡ Some x → p x ≡ true
+    at true is more f = let here : y ≡ x = cc in ap p (sym here) ∙ is
+    at false is more f = more f
 
 abbrev or_else : {A : Type 0} → Option A → Option A → Option A
 or_else (Some x) o = Some x
@@ -78,11 +76,11 @@ or_else_assoc None b c = refl
 
 found_joined : {A : Type 0} (p : A → Bool) (xs ys : List A) → find p (xs ++ ys) ≡ or_else (find p xs) (find p ys)
 found_joined p [] ys = refl
-found_joined p (x ∷ xs) ys = at (p x)
+found_joined p (x ∷ xs) ys = at (p x) (found_joined p xs ys)
   where
-    at : (b : Bool) → cond b (Some x) (find p (xs ++ ys)) ≡ or_else (cond b (Some x) (find p xs)) (find p ys)
-    at true = refl
-    at false = found_joined p xs ys
+    at : (b : Bool) → find p (xs ++ ys) ≡ or_else (find p xs) (find p ys) → cond b (Some x) (find p (xs ++ ys)) ≡ or_else (cond b (Some x) (find p xs)) (find p ys)
+    at true more = refl
+    at false more = more
 
 -- ---- the tower of a name
 
@@ -97,7 +95,8 @@ at_number row name = at_place (λ (named : Named). bytes_eq named.name name) row
 pub tower_at : (row : List Named) (name : List ℕ) (i : ℕ) → number_of name row ≡ Some i → (named : Named) × (slice_get row i ≡ Some named)
 tower_at row name i e = some_at (λ (named : Named). bytes_eq named.name name) row i e
 
-first_at : (row : List Named) (name : List ℕ) (i : ℕ) (named : Named) → number_of name row ≡ Some i → slice_get row i ≡ Some named → first_of name row ≡ Some named
+-- it is the first of this name
+pub first_at : (row : List Named) (name : List ℕ) (i : ℕ) (named : Named) → number_of name row ≡ Some i → slice_get row i ≡ Some named → first_of name row ≡ Some named
 first_at row name i named e at = sym (at_number row name) ∙ ap (option_and_then (slice_get row)) e ∙ at
 
 none_first : (row : List Named) (name : List ℕ) → number_of name row ≡ None → first_of name row ≡ None
@@ -134,7 +133,7 @@ lines_first name row (line ∷ lines) =
 pub row_first : (program : ProgramTree) (name : List ℕ) → first_of name (row_of program) ≡ first_of name (map named_line (reduce_lines program))
 row_first program name = lines_first name [] (map named_line (reduce_lines program))
 
-abbrev kind_under : Option Named → Option Kind
+abbrev pub kind_under : Option Named → Option Kind
 kind_under (Some named) = Some named.tower.kind
 kind_under None = None
 
@@ -144,22 +143,24 @@ start_under None = None
 
 kind_of_lines : (lines : List ReduceLine) (name : List ℕ) → kind_under (first_of name (map named_line lines)) ≡ kind_among lines name
 kind_of_lines [] name = refl
-kind_of_lines (line ∷ lines) name = at (bytes_eq line.name name)
+kind_of_lines (line ∷ lines) name = at (bytes_eq line.name name) (kind_of_lines lines name)
   where
-    at : (b : Bool) → kind_under (cond b (Some (named_line line)) (first_of name (map named_line lines))) ≡ (if b then Some line.kind else kind_among lines name)
-    at true = refl
-    at false = kind_of_lines lines name
+    at : (b : Bool) → kind_under (first_of name (map named_line lines)) ≡ kind_among lines name →
+        kind_under (cond b (Some (named_line line)) (first_of name (map named_line lines))) ≡ (if b then Some line.kind else kind_among lines name)
+    at true more = refl
+    at false more = more
 
 abbrev site_of : ReduceLine → Site
 site_of line = site line.name line.start
 
 start_of_lines : (lines : List ReduceLine) (name : List ℕ) → start_under (first_of name (map named_line lines)) ≡ start_among (map site_of lines) name
 start_of_lines [] name = refl
-start_of_lines (line ∷ lines) name = at (bytes_eq line.name name)
+start_of_lines (line ∷ lines) name = at (bytes_eq line.name name) (start_of_lines lines name)
   where
-    at : (b : Bool) → start_under (cond b (Some (named_line line)) (first_of name (map named_line lines))) ≡ (if b then line.start else start_among (map site_of lines) name)
-    at true = refl
-    at false = start_of_lines lines name
+    at : (b : Bool) → start_under (first_of name (map named_line lines)) ≡ start_among (map site_of lines) name →
+        start_under (cond b (Some (named_line line)) (first_of name (map named_line lines))) ≡ (if b then line.start else start_among (map site_of lines) name)
+    at true more = refl
+    at false more = more
 
 pub row_kind : (program : ProgramTree) (name : List ℕ) → kind_under (first_of name (row_of program)) ≡ reducer_kind program name
 row_kind program name = ap kind_under (row_first program name) ∙ kind_of_lines (reduce_lines program) name
@@ -184,11 +185,12 @@ names_of row = map (λ (named : Named). named.name) row
 
 any_name : (name : List ℕ) (row : List Named) → list_any (λ m. bytes_eq m name) (names_of row) ≡ is_some (first_of name row)
 any_name name [] = refl
-any_name name (named ∷ row) = at (bytes_eq named.name name)
+any_name name (named ∷ row) = at (bytes_eq named.name name) (any_name name row)
   where
-    at : (b : Bool) → (b || list_any (λ m. bytes_eq m name) (names_of row)) ≡ is_some (cond b (Some named) (first_of name row))
-    at true = refl
-    at false = any_name name row
+    at : (b : Bool) → list_any (λ m. bytes_eq m name) (names_of row) ≡ is_some (first_of name row) →
+        (b || list_any (λ m. bytes_eq m name) (names_of row)) ≡ is_some (cond b (Some named) (first_of name row))
+    at true more = refl
+    at false more = more
 
 line_named : (row : List Named) (line : Named) → names_of (with_line row line) ≡ with_name (names_of row) line.name
 line_named row line = at (number_of line.name row) refl
@@ -222,56 +224,3 @@ row_names program =
 
 pub row_counted : (program : ProgramTree) → length (row_of program) ≡ length (reducers_of program)
 row_counted program = sym (length-map (row_of program) (λ (named : Named). named.name)) ∙ ap length (row_names program)
-
--- ---- the inputs of a tower
-
-inputs_joined : (i : ℕ) (xs ys : List Emitted) → towers.inputs_of i (xs ++ ys) ≡ towers.inputs_of i xs ++ towers.inputs_of i ys
-inputs_joined i xs ys =
-    ap (map (λ (e : Emitted). e.value)) (filter-append (λ (e : Emitted). e.tower == i) xs ys)
-    ∙ map-append (λ (e : Emitted). e.value) (filter (λ (e : Emitted). e.tower == i) xs) (filter (λ (e : Emitted). e.tower == i) ys)
-
--- the pair of the tower's name is its input, and no other
-module _ (row : List Named) (name : List ℕ) (i : ℕ) (named : Named) (e : number_of name row ≡ Some i) (at : slice_get row i ≡ Some named) where
-  one_input : (pair : Pair) (b : Bool) → bytes_eq pair.name name ≡ b → towers.inputs_of i (input_for (number_of pair.name row) pair.input) ≡ cond b (pair.input ∷ []) []
-  one_input pair true is =
-      let here : number_of pair.name row ≡ Some i = ap (λ n. number_of n row) (same pair.name name is) ∙ e in
-      ap (λ o. towers.inputs_of i (input_for o pair.input)) here
-      ∙ ap (λ b. map (λ (x : Emitted). x.value) (cond b (record { tower = i; value = pair.input } ∷ []) [])) (eq-eqb i i refl)
-  one_input pair false is = other (number_of pair.name row) refl
-    where
-      apart : (j : ℕ) → number_of pair.name row ≡ Some j → (b : Bool) → (j == i) ≡ b → b ≡ false
-      apart j f true g =
-          let there : slice_get row j ≡ Some named = ap (slice_get row) (eqb-true j i g) ∙ at in
-          let mine = found_passes (λ (n : Named). bytes_eq n.name name) row named (first_at row name i named e at) in
-          let its = found_passes (λ (n : Named). bytes_eq n.name pair.name) row named (first_at row pair.name j named f there) in
-          let one : pair.name ≡ name = sym (same named.name pair.name its) ∙ same named.name name mine in
-          sym (itself name) ∙ ap (λ n. bytes_eq n name) (sym one) ∙ is
-      apart j f false g = refl
-
-      other : (o : Option ℕ) → number_of pair.name row ≡ o → towers.inputs_of i (input_for o pair.input) ≡ []
-      other None f = refl
-      other (Some j) f = ap (λ b. map (λ (x : Emitted). x.value) (cond b (record { tower = j; value = pair.input } ∷ []) [])) (apart j f (j == i) refl)
-
-  -- the pairs of the tower's name, in order, are its inputs
-  numbered_under : (pairs : List Pair) → towers.inputs_of i (numbered row pairs) ≡ emitted_under name pairs
-  numbered_under [] = refl
-  numbered_under (pair ∷ pairs) =
-      inputs_joined i (input_for (number_of pair.name row) pair.input) (numbered row pairs)
-      ∙ ap₂ (λ xs ys. xs ++ ys) (one_input pair (bytes_eq pair.name name) refl) (numbered_under pairs)
-      ∙ put (bytes_eq pair.name name)
-    where
-      put : (b : Bool) → cond b (pair.input ∷ []) [] ++ emitted_under name pairs ≡ map (λ (x : Pair). x.input) (cond b (pair ∷ filter (λ (x : Pair). bytes_eq x.name name) pairs) (filter (λ (x : Pair). bytes_eq x.name name) pairs))
-      put true = refl
-      put false = refl
-
-started_same : (o : Option Value) → started_by o ≡ or_none o
-started_same None = refl
-started_same (Some v) = refl
-
-pub inputs_in_row : RowHasInputs
-inputs_in_row program pairs name i e =
-    let row = row_of program in
-    let there = tower_at row name i e in
-    let start : start_of program name ≡ there.0.start = (first_lines_kept program name i there.0 e there.1).1 in
-    starts_come_first row i there.0 (numbered row pairs) there.1
-    ∙ ap₂ (λ xs ys. xs ++ ys) (started_same there.0.start ∙ ap or_none (sym start)) (numbered_under row name i there.0 e there.1 pairs)
