@@ -7,5 +7,6 @@ pub mod LegalRuns
 pub mod NameLemmas
 pub mod PatternLemmas
 pub mod RunLemmas
+pub mod SiteLemmas
 pub mod StepLemmas
 pub mod StoreLemmas
