@@ -1,0 +1,2 @@
+mod ReduceEntries
+mod ReducerFacts
