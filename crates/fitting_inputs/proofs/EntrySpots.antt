@@ -1,6 +1,6 @@
 -- In a program that a text spells only names that earlier entries bind are in scope at an entry, and what it binds or assigns are names.
-use Rattle.std.proofs.Common.{◌≡◌, ◌≢◌, ℕ, Bool, true, false, List, [], ◌∷◌, ◌++◌, map, None, refl, ap, sym, ◌∙◌, subst, append_assoc, append-nil, codes, arith}
-use Rattle.std.specs.Prelude.{nat_lt, nat_le, ◌&&◌, ◌||◌, Option, Some, length}
+use Rattle.std.proofs.Common.{◌≡◌, ℕ, Bool, true, false, List, [], ◌∷◌, ◌++◌, map, None, refl, ap, sym, ◌∙◌, subst, append_assoc, append-nil, codes, arith}
+use Rattle.std.specs.Prelude.{nat_lt, nat_le, ◌≤◌, ◌&&◌, ◌||◌, Option, Some, length}
 use Rattle.std.specs.List.{list_all, AllByRecursion}
 use Rattle.std.specs.Option.{option_and_then}
 use Rattle.std.specs.Str.{bytes_eq}
@@ -10,18 +10,20 @@ use Rattle.loop_data.specs.declared.head.Binding.{Binding}
 use Rattle.loop_data.specs.declared.head.HeadLine.{HeadLine}
 use Rattle.loop_data.specs.declared.head.Inner.{Inner}
 use Rattle.loop_data.specs.declared.head.PrintLine.{PrintLine}
-use Rattle.loop_data.specs.declared.expr.Expr.{Expr}
 use Rattle.loop_data.specs.declared.statement.Statement.{Statement}
 use Rattle.loop_data.specs.declared.statement.Branch.{Branch}
 use Rattle.loop_grammar.specs.declared.line.NumberedLine.{NumberedLine}
-use Rattle.loop_grammar.specs.declared.line.Heads.{Heads}
 use Rattle.loop_grammar.specs.declared.tree.ProgramTree.{ProgramTree}
 use Rattle.loop_grammar.specs.Nesting.{Nests, NestsBlock, NestsInits, NestsParts, NestsSkip, NestsStatement, NestsVars, head_line}
-use Rattle.loop_grammar.specs.WellFormed.{are_heads, are_lines, is_expr, is_form, is_head, is_inner, is_literal, is_name, is_pattern, is_range, is_within}
+use Rattle.loop_grammar.specs.Texts.{AllSay, SpellsProgram}
+use Rattle.loop_grammar.specs.TreeLines.{tree_lines}
+use Rattle.loop_grammar.specs.WellFormed.{all_fit, are_heads, are_lines, is_expr, is_form, is_head, is_inner, is_literal, is_name, is_pattern, is_range, is_within, most_inside, statement_fits}
+use Rattle.loop_writer.proofs.Placing.{AllNumbered}
+use Rattle.loop_syntax.proofs.TreeLemmas.{tree_stands}
+use Rattle.loop_syntax.proofs.WellFormedTexts.{programs_are_well_formed}
 use Rattle.loop_values.specs.Kinds.{kind_of, literal_kind}
 use Rattle.legality_rules.specs.declared.scope.Sort.TheVariants.{Local, LoopVariable, Scratch, Variable}
-use Rattle.legality_rules.specs.Cuts.{scope_after}
-use Rattle.legality_rules.specs.Lines.{Entry, Form, Listed, Listing, assigned, bound, branch_listing, branches_in_turn, condition, entries_of, first_head, first_name, head_listing, in_turn, init_line, init_listing, inner_head, inner_listing, keep_line, let_line, listings, one_entry, print_line, print_listing, reduce_line, set_line, statement_listing, var_line, var_listing}
+use Rattle.legality_rules.specs.Lines.{Entry, Form, Listed, Listing, assigned, bound, branch_listing, branches_in_turn, condition, first_head, first_name, head_listing, in_turn, init_line, init_listing, inner_head, inner_listing, keep_line, let_line, listings, one_entry, print_line, print_listing, reduce_line, set_line, statement_listing, var_line, var_listing}
 use Rattle.legality_rules.specs.Offences.{spots_after, spots_of}
 use Rattle.legality_rules.specs.Rules.{Spot, bound_by}
 use Rattle.legality_rules.specs.Scopes.{Scope, found, is_in, item_kind, kinds_in, known_as, pattern_known, sort_in, unwrapped}
@@ -291,6 +293,19 @@ forms_hold n (p ∷ ps) e =
     let rest : (is_within p.form && are_lines p.line ps) ≡ true = right_true (nat_lt n p.line) (is_within p.form && are_lines p.line ps) e in
     (left_true (is_form p.form) _ (left_true (is_within p.form) (are_lines p.line ps) rest), forms_hold p.line ps (right_true (is_within p.form) (are_lines p.line ps) rest))
 
--- the lines of a program being such, its entries are sound
-pub nested_sound : {r : ℕ} {p : ProgramTree} {forms : List NumberedLine} → Nests r p forms → are_lines 0 forms ≡ true → AllByRecursion IsSound (spots_of p)
+-- the entries of a program whose lines stand one below another are sound
+nested_sound : {r : ℕ} {p : ProgramTree} {forms : List NumberedLine} → Nests r p forms → are_lines 0 forms ≡ true → AllByRecursion IsSound (spots_of p)
 nested_sound {p = p} {forms = forms} nests e = turn_sound (listings p) (program_sound nests (forms_hold 0 forms e)) [] [] (λ n h. refl)
+
+numbered_from : {n : ℕ} {lines : List (List ℕ)} {forms : List NumberedLine} → AllSay n lines forms → 1 ≤ n → AllNumbered forms
+numbered_from AllSay.none le = tt
+numbered_from (AllSay.blank_line {n = n} b h) le = numbered_from h (omega arith)
+numbered_from (AllSay.line {n = n} b h) le = ((λ (e : n ≡ 0). omega arith), numbered_from h (omega arith))
+
+-- the entries of a program that a text spells are sound
+pub entries_sound : (text : List ℕ) (program : ProgramTree) → SpellsProgram text program → AllByRecursion IsSound (spots_of program)
+entries_sound text program spelled =
+    let stands = tree_stands spelled.nests (numbered_from spelled.lines (omega arith)) in
+    let lines : are_lines 0 (tree_lines program) ≡ true =
+    left_true (are_lines 0 (tree_lines program)) (all_fit (map statement_fits program.body) most_inside) (programs_are_well_formed text program spelled) in
+    nested_sound spelled.nests (subst (λ (forms : List NumberedLine). are_lines 0 forms ≡ true) (sym stands.same) lines)

@@ -1,2 +1,4 @@
+pub mod EntryFacts
+mod EntrySpots
 mod ReduceEntries
 mod ReducerFacts

@@ -1,5 +1,5 @@
 -- The `@reduce` lines among the entries of a program are its `@reduce` lines, in the same order.
-use Rattle.std.proofs.Common.{◌≡◌, ℕ, List, [], ◌∷◌, ◌++◌, map, Option, refl, ap, sym, ◌∙◌, subst, codes, append_assoc, append-nil}
+use Rattle.std.proofs.Common.{◌≡◌, ℕ, List, [], ◌∷◌, ◌++◌, map, Option, refl, ap, sym, ◌∙◌, subst, codes, append-nil}
 use Rattle.std.specs.Prelude.{flat_map}
 use Rattle.loop_data.specs.declared.value.Value.{Value}
 use Rattle.loop_data.specs.declared.head.Binding.{Binding}
@@ -14,7 +14,7 @@ use Rattle.loop_data.specs.declared.tower.TowerExpr.{TowerExpr}
 use Rattle.loop_grammar.specs.declared.tree.ProgramTree.{ProgramTree}
 use Rattle.tower_inputs.specs.Towers.{kind_of_tower}
 use Rattle.legality_rules.specs.Cuts.{scope_after}
-use Rattle.legality_rules.specs.Lines.{Branched, Entry, Form, Listed, Listing, branch_listing, branch_step, branches_in_turn, entries_of, head_listing, in_turn, init_listing, inner_listing, print_listing, reduce_line, statement_listing, statement_step, var_listing}
+use Rattle.legality_rules.specs.Lines.{Branched, Entry, Form, Listing, branch_listing, branch_step, branches_in_turn, entries_of, head_listing, in_turn, init_listing, inner_listing, print_listing, reduce_line, statement_listing, statement_step, var_listing}
 use Rattle.legality_rules.specs.Scopes.{Scope}
 use Rattle.legality_rules.proofs.CutLemmas.{entries_of_two}
 use Rattle.carries_nothing.proofs.EntryNames.{entries_in, scope_in}

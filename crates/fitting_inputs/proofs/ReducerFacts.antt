@@ -1,13 +1,12 @@
 -- In a legal program all `@reduce` lines of a name have one tower, which their start values fit, and there are at most 64 of them.
 use Rattle.std.proofs.Common.{◌≡◌, ℕ, ◌+◌, ◌≤◌, Bool, true, false, List, [], ◌∷◌, ◌++◌, map, length, Option, Some, None, refl, ap, sym, suc, ◌∙◌, subst, append-nil, append_assoc, length-append, arith}
-use Rattle.std.specs.Prelude.{◌==◌, ◌||◌, not, filter, flat_map, if◌then◌else◌}
+use Rattle.std.specs.Prelude.{◌==◌, not, filter, if◌then◌else◌}
 use Rattle.std.specs.List.{AllByRecursion}
 use Rattle.std.specs.Str.{bytes_eq}
 use Rattle.std.proofs.lemmas.Bool.Decides.{nat_tests}
 use Rattle.loop_data.specs.declared.tower.Kind.{Kind}
-use Rattle.loop_data.specs.declared.tower.TowerExpr.{TowerExpr}
-use Rattle.loop_data.specs.declared.value.Value.{Value}
 use Rattle.loop_grammar.specs.declared.tree.ProgramTree.{ProgramTree}
+use Rattle.loop_values.specs.Kinds.{Kinds}
 use Rattle.loop_values.proofs.EntryLemmas.{same_self, same_text}
 use Rattle.tower_inputs.specs.Towers.{kind_of_tower, same_tower}
 use Rattle.tower_inputs.proofs.SameTowers.{same_tower-sound}
@@ -20,8 +19,9 @@ use Rattle.legality_rules.specs.Scopes.{Scope, kinds_in}
 use Rattle.legality_rules.specs.Towers.{input_kinds, inputs_differ}
 use Rattle.legality_rules.proofs.RuleLemmas.{legal_keeps}
 use Rattle.carries_nothing.proofs.SameNames.{first_false}
-use Rattle.fitting_inputs.specs.Laws.{ReduceLinesAreFew, ReducersAgree}
-use Rattle.fitting_inputs.specs.ReduceLines.{ReduceLine, kind_among, reduce_lines, reducer_kind}
+use Rattle.legality_check.specs.Laws.{InputsFit, LegalInputsFit}
+use Rattle.fitting_inputs.specs.Laws.{LegalStartsFit, ReduceLinesAreFew, ReducersAgree}
+use Rattle.fitting_inputs.specs.ReduceLines.{ReduceLine, StartFits, kind_among, reduce_lines, reducer_kind}
 use Rattle.fitting_inputs.proofs.ReduceEntries.{line_at, lines_joined, lines_of, program_lines, reduce_of}
 
 -- ---- lists
@@ -182,3 +182,18 @@ reduce_lines_are_few program legal =
     subst (λ lines. length lines ≤ most_sites) (program_lines program)
     (few_from outline [] (entries_of program)
     (each (KeepsRules outline rules) (λ (spot : Spot). sites_too_many outline spot ≡ []) (λ spot k. k.1.1.1.1.1.1.1.1.1.0) (spots_of program) (legal_keeps program legal)) (omega arith))
+
+-- ---- start values
+
+-- a start value that fits the tower of its line fits the kind of this tower
+starts_at : (form : Form) (names : Kinds) → InputsFit names form → AllByRecursion (λ (line : ReduceLine). StartFits line.start line.kind) (line_at form)
+starts_at (reduce_line n tower None) names h = (tt, tt)
+starts_at (reduce_line n tower (Some start)) names h = (h.0, tt)
+starts_at _ names h = tt
+
+-- from the law on the inputs of `@reduce` lines
+pub legal_starts_fit : LegalInputsFit → LegalStartsFit
+legal_starts_fit inputs text program spelled legal =
+    of_program (λ (line : ReduceLine). StartFits line.start line.kind) program
+    (each (λ (spot : Spot). InputsFit (kinds_in spot.here.scope) spot.here.says) (λ (spot : Spot). AllByRecursion (λ (line : ReduceLine). StartFits line.start line.kind) (line_at spot.here.says))
+    (λ spot h. starts_at spot.here.says (kinds_in spot.here.scope) h) (spots_of program) (inputs text program spelled legal))
