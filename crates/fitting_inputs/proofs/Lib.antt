@@ -1,4 +1,6 @@
+pub mod BlockLemmas
 pub mod EntryFacts
 mod EntrySpots
+pub mod NameLemmas
 mod ReduceEntries
-mod ReducerFacts
+pub mod ReducerFacts
