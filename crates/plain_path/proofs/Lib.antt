@@ -1,2 +1,5 @@
-mod PairLemmas
-mod FoldLemmas
+pub mod FitLemmas
+pub mod FoldLemmas
+pub mod InputLemmas
+pub mod PairLemmas
+pub mod RowLemmas
