@@ -102,7 +102,7 @@ pub(crate) fn run_output(
     ensures answered { IfOk result (λ o. IsAnswered o.status) }
 {
     let row = row_of(alloc, legal)?;
-    match fold_plain(alloc, legal.program(), head, &row)? {
+    match fold_plain(alloc, legal, head, &row)? {
         PathEnd::Done { state, skipped } => done_output(alloc, legal, &row, &state, skipped),
         PathEnd::Faulted { at, line, kind } => {
             let line = fault_line(alloc, at, line, kind)?;

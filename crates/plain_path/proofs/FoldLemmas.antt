@@ -181,8 +181,7 @@ module _ (program : ProgramTree) (row : List Named) (items : List Value) where
 
     pub next_has_room : length (run_over program items).emitted ≤ 2 ^ 61 → HaveRoom row walked.state (length next_item.emitted)
     next_has_room few =
-        let (more, is) = whole_emits in
-        (
+        let (more, is) = whole_emits in (
           numbered row (so_far n).emitted,
           w.stands.states,
           omega (arith, few, ap length is, length-append ((so_far n).emitted ++ next_item.emitted) more, length-append (so_far n).emitted next_item.emitted, numbered_few row (so_far n).emitted),

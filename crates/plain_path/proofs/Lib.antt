@@ -1,5 +1,6 @@
 pub mod FitLemmas
-pub mod FoldLemmas
+mod FoldLemmas
 pub mod InputLemmas
-pub mod PairLemmas
+mod LegalLemmas
+mod PairLemmas
 pub mod RowLemmas

@@ -197,6 +197,17 @@ fn fold_items(
     done(alloc, row, walked)
 }
 
+/// What a legal program emits over the items of its head fits the row of its reducers, and leaves room for their start values.
+fn emits_fitting(legal: &LegalProgram, head: &HeadItems<'_>)
+    requires { AreHeadItems legal.now head.now.items }
+    ensures fit { pairs_fit (row_of legal.now) (run_over legal.now head.now.items).emitted ≡ true }
+    ensures few { length (run_over legal.now head.now.items).emitted ≤ 2 ^ 61 }
+{
+    // That a text spells the program, and that there are not too many items, is what these two calls say.
+    legal.program().tree();
+    head.count();
+}
+
 /// The plain loop of a legal program over the items of its head, from place 1, folded into the row of its reducers.
 pub fn fold_plain(
     alloc: Global,
@@ -208,6 +219,7 @@ pub fn fold_plain(
     requires head { AreHeadItems legal.now head.now.items }
     ensures { IfOk result (IsEnd row.now.towers.items (run_over legal.now head.now.items)) }
 {
+    emits_fitting(legal, head);
     let program = legal.program();
     let count = head.count();
     let begun = begin(alloc, program, row)?;
