@@ -1,2 +1,4 @@
+pub mod BlockLemmas
 pub mod ItemLemmas
+pub mod NameLemmas
 pub mod SiteLemmas

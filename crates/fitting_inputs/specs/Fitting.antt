@@ -10,7 +10,7 @@ use Rattle.loop_data.specs.declared.expr.Expr.{Expr}
 use Rattle.loop_data.specs.declared.tower.TowerExpr.{TowerExpr}
 use Rattle.loop_values.specs.Bindings.{Bindings, Names, place_name}
 use Rattle.loop_values.specs.Fits.{Agree}
-use Rattle.loop_values.specs.Kinds.{Kinds, AreWellFormed, is_bool, is_maybe, kind_of}
+use Rattle.loop_values.specs.Kinds.{AreWellFormed, is_bool, is_maybe, kind_of}
 use Rattle.tower_inputs.specs.Inputs.{input_of}
 use Rattle.tower_inputs.specs.Laws.{HasPlace}
 use Rattle.legality_rules.specs.Scopes.{Scope, fits_pattern, is_known, item_kind, kinds_in}

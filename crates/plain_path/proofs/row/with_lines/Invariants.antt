@@ -9,5 +9,5 @@ abbrev pub invariant-loop-line : goal.invariant-loop-line
 invariant-loop-line l = record {
   whole : with_lines l.row.towers.items l.line-iterator.rest.items ≡ with_lines [] l.fn.lines.items;
   fit : list_all start_fits l.line-iterator.rest.items ≡ true;
-  few : length l.row.towers.items + length l.line-iterator.rest.items < 2 ^ 32
+  few : length l.row.towers.items + length l.line-iterator.rest.items < 2 ^ 32;
 }
