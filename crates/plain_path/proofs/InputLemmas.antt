@@ -95,7 +95,10 @@ module _ (row : List Named) (name : List ℕ) (i : ℕ) (named : Named) (e : num
       ∙ ap₂ (λ xs ys. xs ++ ys) (one_input pair (bytes_eq pair.name name) refl) (numbered_under pairs)
       ∙ put (bytes_eq pair.name name)
     where
-      put : (b : Bool) → cond b (pair.input ∷ []) [] ++ emitted_under name pairs ≡ map (λ (x : Pair). x.input) (cond b (pair ∷ filter (λ (x : Pair). bytes_eq x.name name) pairs) (filter (λ (x : Pair). bytes_eq x.name name) pairs))
+      abbrev under : List Pair
+      under = filter (λ (x : Pair). bytes_eq x.name name) pairs
+
+      put : (b : Bool) → cond b (pair.input ∷ []) [] ++ emitted_under name pairs ≡ map (λ (x : Pair). x.input) (cond b (pair ∷ under) under)
       put true = refl
       put false = refl
 
