@@ -19,7 +19,8 @@ item_run program store item place = loop_run program store (item ∷ []) place
 
 -- whichever list of inputs the states before stood for, those after stand for it with these behind it
 abbrev pub TakeBehind : List Named → RowState → RowState → List Emitted → Type 0
-TakeBehind row before after inputs = (earlier : List Emitted) → RowStands row before.states.items earlier → RowStands row after.states.items (earlier ++ inputs)
+TakeBehind row before after inputs = (earlier : List Emitted) → RowStands row before.states.items earlier →
+    RowStands row after.states.items (earlier ++ inputs)
 
 -- the states stand for some list of inputs, which with so many more has at most 2^61
 abbrev pub HaveRoom : List Named → RowState → ℕ → Type 0

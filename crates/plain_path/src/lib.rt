@@ -1,7 +1,7 @@
 //! The plain loop over a head, folded into a row: the reference path, on one thread.
 //!
-//! The items are made one after another by their places, each goes through one step of the body on one store that lives on, and what
-//! the step emits is folded into the states of a row of the program's reducers. So nothing is kept for an item, but what `list` and
+//! The items are made one after another along a walk, each goes through one step of the body on one store that lives on, and what the
+//! step emits is folded into the states of a row of the program's reducers. So nothing is kept for an item, but what `list` and
 //! `group` keep.
 #![tactic(auto)]
 
