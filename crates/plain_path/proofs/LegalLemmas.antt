@@ -1,5 +1,5 @@
 -- What a legal program emits over the items of its head fits the row of its reducers, and is few.
-use Rattle.std.proofs.Common.{◌≡◌, ℕ, ◌≤◌, ◌*◌, ◌^◌, true, List, [], ◌∷◌, length, map, refl, sym, ap, subst, ◌∙◌, arith}
+use Rattle.std.proofs.Common.{◌≡◌, ℕ, ◌≤◌, ◌*◌, ◌^◌, true, List, [], ◌∷◌, length, refl, sym, ap, subst, arith}
 use Rattle.std.proofs.lemmas.List.{length-map}
 use Rattle.std.proofs.Math.Bool.{Bool-set}
 use Rattle.std.proofs.Math.Logic.{∥∥₁_elim}
@@ -10,9 +10,7 @@ use Rattle.loop_grammar.specs.Texts.{SpellsProgram}
 use Rattle.loop_grammar.specs.declared.tree.ProgramTree.{ProgramTree}
 use Rattle.loop_syntax.specs.Programs.{IsProgram}
 use Rattle.legality_rules.specs.Offences.{IsLegal}
-use Rattle.loop_meaning.specs.Items.{items_of}
 use Rattle.loop_meaning.specs.Reducers.{sites_of}
-use Rattle.loop_meaning.specs.Runs.{loop_run}
 use Rattle.loop_meaning.specs.Stores.{start_store}
 use Rattle.loop_meaning.proofs.FewLemmas.{runs_few}
 use Rattle.reducer_tower.specs.declared.named.Named.{Named}
