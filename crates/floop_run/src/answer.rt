@@ -8,6 +8,7 @@ ghost use Rattle.program_words.specs.Refusals.{refusal_text};
 ghost use Rattle.program_words.specs.Views.{request_seen};
 ghost use Rattle.data_files.specs.Tables.{data_table};
 ghost use Rattle.loop_items.specs.Refusals.{first_head_refusal};
+ghost use Rattle.plain_path.specs.Paths.{AreHeadItems};
 ghost use Rattle.floop_run.specs.Requests.{request_in, loop_file, data_names};
 ghost use Rattle.floop_run.specs.Answers.{IsAnswer, IsFileAnswer, IsTextAnswer, program_answer, table_answer, head_answer, command_answer, not_held, loop_file_limit, refused};
 ghost use Rattle.floop_run.specs.TopCall.{IsAnswered};
@@ -15,7 +16,7 @@ ghost use Rattle.floop_run.specs.Outputs.{answer_in};
 
 use crate::Status;
 use crate::accepted::accepted_output;
-use crate::data::data_names;
+use crate::names::{data_names, loop_file};
 use crate::results::run_output;
 use column_input::Table;
 use data_files::{DataStop, read_data};
@@ -23,7 +24,7 @@ use edge_io::{Files, NoMemory, ReadStop};
 use legality_check::{LegalProgram, LegalRefusal, check_program};
 use loop_items::{HeadItems, HeadRefusal};
 use loop_syntax::{Program, SyntaxRefusal, read_program};
-use program_words::{Call, Command, Refusal, Request, Setting, request_of};
+use program_words::{Call, Command, Refusal, Request, request_of};
 use std::alloc::{AllocError, Global};
 
 /// The most bytes of a loop file.
@@ -116,7 +117,7 @@ fn loop_output<F: Files>(
     ensures held { F.held files.new ≡ F.held files.old }
     ensures kept { result ≢ Err OutputStop.ReadFault → F.faults files.new ≡ F.faults files.old }
 {
-    let name = request.value(Setting::Loop).unwrap_or("");
+    let name = loop_file(request);
     let mut bytes = Vec::new(alloc);
     match files.read_named(alloc, name, LOOP_FILE_LIMIT, &mut bytes) {
         Ok(()) => text_output(alloc, request, &bytes, files),
@@ -253,6 +254,7 @@ fn command_output(
     legal: &LegalProgram,
     head: &HeadItems<'_>,
 ) -> Result<Output, NoMemory>
+    requires { AreHeadItems legal.now head.now.items }
     ensures answer { IfOk result (λ o. answer_in o ≡ command_answer command legal.now head.now.items) }
     ensures answered { IfOk result (λ o. IsAnswered o.status) }
 {

@@ -69,7 +69,7 @@ pub fn floop_words<F: Files, K: Sink>(
     ensures files_kept { result ≢ Status.ReadFault → F.faults files.new ≡ F.faults files.old }
     ensures sink_kept { result ≢ Status.WriteFault → K.faults out.new ≡ K.faults out.old }
 
-    // The call changes no file.
+    // Nothing changes of what files tell that they hold.
     ensures held { F.held files.new ≡ F.held files.old }
 {
     match output_for(alloc, words, files) {

@@ -1,0 +1,25 @@
+use Rattle.std.proofs.Common.{Err, ap, sym, refl, ◌∙◌}
+use Rattle.std.proofs.lemmas.Result.{IfOk-weaker}
+use Rattle.program_words.specs.Views.{request_seen}
+use Rattle.floop_run.proofs.ReadLemmas.{every, every_of}
+use Rattle.floop_run.proofs.LegalLemmas.{legal_is, illegal_is}
+use Rattle.floop_run.proofs.answer.program_output.Goals as goal
+
+pub returns-in-Ok-clause-output : goal.returns-in-Ok-clause-output
+returns-in-Ok-clause-output g c =
+    let q = request_seen c.args.request.now in
+    let legal = (c.in-Ok.ensures.legal (λ e. absurd (cc))).0 refl in
+    every_of (g.F.Files.held c.args.files.now) _ _
+    (λ held given. IfOk-weaker c.legal_output.result _ _ (λ o is. is ∙ sym (legal_is q held c.args.program c.in-Ok.legal c.in-Ok.ensures.same legal)) given)
+    c.legal_output.ensures.output
+
+pub returns-in-Ok-clause-read_fault : goal.returns-in-Ok-clause-read_fault
+returns-in-Ok-clause-read_fault g c =
+    let q = request_seen c.args.request.now in
+    let legal = (c.in-Ok.ensures.legal (λ e. absurd (cc))).0 refl in
+    every_of (g.F.Files.held c.args.files.now) _ _
+    (λ held missed none fault. missed none fault ∙ sym (legal_is q held c.args.program c.in-Ok.legal c.in-Ok.ensures.same legal))
+    c.legal_output.ensures.read_fault
+
+pub returns-in_ok-refusal-in-Err-Illegal-clause-output : goal.returns-in_ok-refusal-in-Err-Illegal-clause-output
+returns-in_ok-refusal-in-Err-Illegal-clause-output g c = ?
