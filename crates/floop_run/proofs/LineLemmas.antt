@@ -1,9 +1,8 @@
 -- Lines put together from pieces, and lines one after another.
-use Rattle.std.proofs.Common.{◌≡◌, ℕ, ◌+◌, ◌<◌, List, [], ◌∷◌, ◌++◌, length, take, get_or, append_assoc, refl, sym, ap, ◌∙◌}
-use Rattle.std.specs.Prelude.{Vec, flat_map}
+use Rattle.std.proofs.Common.{◌≡◌, ℕ, List, [], ◌∷◌, ◌++◌, append_assoc, refl, ap, ◌∙◌}
+use Rattle.std.specs.Prelude.{flat_map}
 use Rattle.std.proofs.lemmas.List.{append-nil}
 use Rattle.std.proofs.lemmas.Grind.{flat_map-append}
-use Rattle.floop_run.specs.TopCall.{joined}
 
 -- five pieces in a row, and a line end
 pub five_pieces : (p a q b s n : List ℕ) → p ++ (a ++ (q ++ (b ++ (s ++ n)))) ≡ p ++ a ++ q ++ b ++ s ++ n

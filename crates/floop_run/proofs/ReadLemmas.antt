@@ -8,7 +8,6 @@ use Rattle.edge_io.specs.declared.files.ReadStop.TheVariants as stop
 use Rattle.edge_io.specs.Reading.{Held, read_answer, Reads}
 use Rattle.floop_run.specs.declared.answer.Output.{Output}
 use Rattle.floop_run.specs.declared.answer.OutputStop.{OutputStop}
-use Rattle.floop_run.specs.declared.answer.OutputStop.TheVariants as why
 use Rattle.program_words.specs.Requests.{Request}
 use Rattle.floop_run.specs.Requests.{request_in, loop_file}
 use Rattle.floop_run.specs.Outputs.{answer_in}
@@ -95,7 +94,7 @@ ok_named : {T : Type 0} (q : Request) (held : Held) (r : Result T ReadStop) (t :
     (answer : Answer) → IsTextAnswer q held text answer → IsFileAnswer q held (get held file) answer
 ok_named q held r t name file before now text e n b is reads answer x =
     let none : Reads (read_answer (get held name) loop_file_limit) r [] now =
-        subst (λ bs. Reads (read_answer (get held name) loop_file_limit) r bs now) b (reads (ok_err r t stop.Failed e) (ok_err r t stop.NoMemory e)) in
+    subst (λ bs. Reads (read_answer (get held name) loop_file_limit) r bs now) b (reads (ok_err r t stop.Failed e) (ok_err r t stop.NoMemory e)) in
     subst (λ f. IsFileAnswer q held (get held f) answer) n (ok_read q held r t (get held name) now answer e none (subst (λ bs. IsTextAnswer q held bs answer) is x))
 
 -- the bytes of the file were read: the answer for them is that for the file

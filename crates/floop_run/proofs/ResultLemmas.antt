@@ -17,7 +17,8 @@ use Rattle.reducer_tower.specs.Rows.{RowStands, IsTextOf, number_of, starts_of}
 use Rattle.fitting_inputs.specs.ReduceLines.{reducer_kind}
 use Rattle.plain_path.specs.Rows.{row_of, numbered}
 use Rattle.plain_path.specs.Paths.{HasNoFault}
-use Rattle.plain_path.proofs.RowLemmas.{tower_at, first_lines_kept, others_have_none, inputs_in_row}
+use Rattle.plain_path.proofs.InputLemmas.{inputs_in_row}
+use Rattle.plain_path.proofs.RowLemmas.{first_lines_kept, others_have_none, tower_at}
 use Rattle.floop_run.specs.Results.{text_of, results_text}
 use Rattle.floop_run.specs.Answers.{done, ended_answer, run_answer}
 
@@ -60,6 +61,6 @@ pub run_done : (program : ProgramTree) (run : Run) → HasNoFault run.stop → r
 run_done program run = at run.stop
   where
     at : (how : PlainStop) → HasNoFault how → ended_answer program run how ≡ done (results_text program run)
-    at stop.Ran no = refl
-    at (stop.Break place in_line) no = refl
-    at (stop.Fault place in_line kind) no = absurd (no place in_line kind refl)
+    at stop.Ran without = refl
+    at (stop.Break place in_line) without = refl
+    at (stop.Fault place in_line kind) without = absurd (without place in_line kind refl)

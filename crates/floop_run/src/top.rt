@@ -14,15 +14,17 @@ use std::alloc::Global;
 
 /// Runs the program on its words.
 ///
-/// The words are a command and its settings, as `program_words` reads them. Served is `run` with `loop=NAME`, NAME being the name of
-/// a loop file of at most 65,536 bytes: the loop is run and its result written, or the reason why it is refused; each line by one
-/// put, with its LF. Another request is answered `form not built`.
+/// The words are a command and its settings, as `program_words` reads them: `run` or `check` with `loop=NAME`, the name of a loop file
+/// of at most 65,536 bytes, and maybe `data=NAMES`, the names of one to eight data files of at most 67,108,864 bytes each. `run` writes
+/// the result of each `print` line, and how many faults were skipped where the loop skips them, or the fault that stopped the loop;
+/// `check` writes how many items and reducers there are. Where something is refused, both write the first reason: of the words, the
+/// loop file, its legality, the data files, the head. Each line is one put, with its LF.
 ///
 /// The clauses tie the status and what was written to the answer, `IsAnswer` in specs/Answers, of which there is just one:
 ///
-/// - `Done` where the loop ran; `LoopFault` where its leftmost stop is a fault;
-/// - `Refused` where the words, or the loop file, are refused;
-/// - `ReadFault` where the loop file isn't held, or its read failed; nothing was written;
+/// - `Done` where the loop ran, or was checked; `LoopFault` where its leftmost stop is a fault;
+/// - `Refused` where the words, the loop file, a data file or the head are refused;
+/// - `ReadFault` where a file that the call reaches isn't held, or its read failed; nothing was written;
 /// - `WriteFault` where a put failed; a prefix of the text was written;
 /// - `NoMemory` for want of memory; nothing was written.
 pub fn floop_words<F: Files, K: Sink>(
