@@ -7,9 +7,10 @@ ghost use Rattle.tower_inputs.specs.Towers.{kind_of_tower};
 ghost use Rattle.fitting_inputs.specs.ReduceLines.{all_lines, lines_in, lines_in_branch, reduce_lines};
 ghost use Rattle.plain_path.specs.Rows.{named_line, with_line, with_lines, row_of};
 
+use fitting_inputs::laws::legal_reducers_have_one_tower;
 use legality_check::LegalProgram;
 use loop_data::{Branch, Statement, TextValue, TowerExpr, Value};
-use loop_syntax::Program;
+use loop_grammar::ProgramTree;
 use no_memory::NoMemory;
 use reducer_tower::{Named, Row, Tower};
 use std::alloc::Global;
@@ -98,11 +99,11 @@ fn push_block(alloc: Global, block: &[Statement], lines: &mut Vec<Named>) -> Res
 }
 
 /// The `@reduce` lines of a program, by rising lines, each as a named tower with its start value.
-fn lines_of(alloc: Global, program: &Program) -> Result<Vec<Named>, NoMemory>
+fn lines_of(alloc: Global, program: &ProgramTree) -> Result<Vec<Named>, NoMemory>
     ensures { IfOk result (λ lines. lines.items ≡ map named_line (reduce_lines program.now)) }
 {
     let mut lines = Vec::new(alloc);
-    push_block(alloc, program.body().as_slice(), &mut lines)?;
+    push_block(alloc, program.body.as_slice(), &mut lines)?;
     Ok(lines)
 }
 
@@ -136,6 +137,8 @@ fn with_lines(alloc: Global, lines: Vec<Named>) -> Result<Row, NoMemory>
 pub fn row_of(alloc: Global, legal: &LegalProgram) -> Result<Row, NoMemory>
     ensures { IfOk result (λ row. row.towers.items ≡ row_of legal.now) }
 {
-    let lines = lines_of(alloc, legal.program())?;
+    // A legal program's start values fit, and its lines are few.
+    legal_reducers_have_one_tower();
+    let lines = lines_of(alloc, legal.program().tree())?;
     with_lines(alloc, lines)
 }
