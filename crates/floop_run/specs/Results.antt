@@ -52,7 +52,8 @@ fault_text kind =
 
 -- the line of the fault that stopped the run: its item's place, its line and what it is called
 abbrev pub fault_line : ℕ → ℕ → ℕ → List ℕ
-fault_line at in_line kind = line (codes "fault: item " ++ decimal at ++ codes ", line " ++ decimal in_line ++ codes ": " ++ fault_text kind)
+fault_line at in_line kind =
+    line (codes "fault: item " ++ decimal at ++ codes ", line " ++ decimal in_line ++ codes ": " ++ fault_text kind)
 
 -- ---- the whole
 

@@ -4,7 +4,6 @@ ghost use Rattle.std.specs.Prelude.{◌≡◌, ◌≢◌, ◌≤◌, Err, IfOk, 
 ghost use Rattle.std.specs.FinMap.{get};
 ghost use Rattle.edge_io.specs.Faults.{Rose};
 ghost use Rattle.program_words.specs.Words.{texts};
-ghost use Rattle.program_words.specs.Refusals.{refusal_text};
 ghost use Rattle.program_words.specs.Views.{request_seen};
 ghost use Rattle.data_files.specs.Tables.{data_table};
 ghost use Rattle.loop_items.specs.Refusals.{first_head_refusal};
@@ -24,8 +23,9 @@ use edge_io::{Files, NoMemory, ReadStop};
 use legality_check::{LegalProgram, LegalRefusal, check_program};
 use loop_items::{HeadItems, HeadRefusal};
 use loop_syntax::{Program, SyntaxRefusal, read_program};
-use program_words::{Call, Command, Refusal, Request, request_of};
+use program_words::{Call, Command, Request, request_of};
 use std::alloc::{AllocError, Global};
+use std::fmt::Display;
 
 /// The most bytes of a loop file.
 const LOOP_FILE_LIMIT: u64 = 65536;
@@ -89,17 +89,8 @@ pub fn output_for<F: Files>(
 {
     match request_of(Call::Direct, words) {
         Ok(request) => loop_output(alloc, &request, files),
-        Err(why) => Ok(words_output(alloc, why)?),
+        Err(why) => Ok(refusal_of(alloc, &why)?),
     }
-}
-
-/// The output for words that are no request.
-fn words_output(alloc: Global, why: Refusal<'_>) -> Result<Output, NoMemory>
-    ensures answer { IfOk result (λ o. answer_in o ≡ refused (refusal_text why.entry)) }
-    ensures answered { IfOk result (λ o. IsAnswered o.status) }
-{
-    let text = format!(in alloc; "{why}")?;
-    refusal(alloc, text.as_str())
 }
 
 /// The output for a request, by its loop file.
@@ -128,8 +119,17 @@ fn loop_output<F: Files>(
     }
 }
 
+/// The refusal of what has a text.
+fn refusal_of<W: Display>(alloc: Global, why: &W) -> Result<Output, NoMemory>
+    ensures answer { IfSome (W.output why.now) (λ text. IfOk result (λ o. answer_in o ≡ refused text)) }
+    ensures answered { IfOk result (λ o. IsAnswered o.status) }
+{
+    let text = format!(in alloc; "{why}")?;
+    refusal(alloc, text.as_str())
+}
+
 /// A refusal is one line.
-pub(crate) fn refusal(alloc: Global, text: &str) -> Result<Output, NoMemory>
+fn refusal(alloc: Global, text: &str) -> Result<Output, NoMemory>
     ensures answer { IfOk result (λ o. answer_in o ≡ refused text.now) }
     ensures answered { IfOk result (λ o. IsAnswered o.status) }
 {
@@ -165,10 +165,7 @@ fn text_output<F: Files>(
     match read_program(alloc, bytes) {
         Ok(program) => program_output(alloc, request, program, files),
         Err(SyntaxRefusal::NoMemory) => Err(OutputStop::NoMemory),
-        Err(why) => {
-            let text = format!(in alloc; "{why}")?;
-            Ok(refusal(alloc, text.as_str())?)
-        }
+        Err(why) => Ok(refusal_of(alloc, &why)?),
     }
 }
 
@@ -180,7 +177,7 @@ fn program_output<F: Files>(
     files: &mut F,
 ) -> Result<Output, OutputStop>
     ensures output { IfSome (F.held files.old) (λ held.
-        IfOk result (λ o. (answer_in o) ≡ program_answer (request_seen request.now) held program)) }
+        IfOk result (λ o. answer_in o ≡ program_answer (request_seen request.now) held program)) }
     ensures answered { IfOk result (λ o. IsAnswered o.status) }
     ensures read_fault { IfSome (F.held files.old) (λ held.
         (Rose (F.faults files.old) (F.faults files.new) → ⊥) → result ≡ Err OutputStop.ReadFault →
@@ -191,10 +188,7 @@ fn program_output<F: Files>(
     match check_program(alloc, program) {
         Ok(legal) => legal_output(alloc, request, &legal, files),
         Err(LegalRefusal::NoMemory) => Err(OutputStop::NoMemory),
-        Err(LegalRefusal::Illegal(offence)) => {
-            let text = format!(in alloc; "{offence}")?;
-            Ok(refusal(alloc, text.as_str())?)
-        }
+        Err(LegalRefusal::Illegal(offence)) => Ok(refusal_of(alloc, &offence)?),
     }
 }
 
@@ -206,7 +200,8 @@ fn legal_output<F: Files>(
     files: &mut F,
 ) -> Result<Output, OutputStop>
     ensures output { IfSome (F.held files.old) (λ held.
-        IfOk result (λ o. (answer_in o) ≡ table_answer (data_table (data_names (request_seen request.now)) held) request.now.command legal.now)) }
+        IfOk result (λ o. answer_in o
+        ≡ table_answer (data_table (data_names (request_seen request.now)) held) request.now.command legal.now)) }
     ensures answered { IfOk result (λ o. IsAnswered o.status) }
     ensures read_fault { IfSome (F.held files.old) (λ held.
         (Rose (F.faults files.old) (F.faults files.new) → ⊥) → result ≡ Err OutputStop.ReadFault →
@@ -220,10 +215,7 @@ fn legal_output<F: Files>(
         Err(DataStop::NoMemory) => Err(OutputStop::NoMemory),
         Err(DataStop::NotHeld) => Err(OutputStop::ReadFault),
         Err(DataStop::Failed) => Err(OutputStop::ReadFault),
-        Err(DataStop::Refused(why)) => {
-            let text = format!(in alloc; "{why}")?;
-            Ok(refusal(alloc, text.as_str())?)
-        }
+        Err(DataStop::Refused(why)) => Ok(refusal_of(alloc, &why)?),
     }
 }
 
@@ -240,10 +232,7 @@ fn table_output(
     match HeadItems::open(alloc, legal.program(), table) {
         Ok(head) => command_output(alloc, command, legal, &head),
         Err(HeadRefusal::NoMemory) => Err(NoMemory),
-        Err(why) => {
-            let text = format!(in alloc; "{why}")?;
-            refusal(alloc, text.as_str())
-        }
+        Err(why) => refusal_of(alloc, &why),
     }
 }
 

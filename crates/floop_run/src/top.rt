@@ -35,8 +35,8 @@ pub fn floop_words<F: Files, K: Sink>(
 ) -> Status
     // Where the bytes are told and no count of faults rose, the call gives the answer, unless memory ran out.
     ensures headline { IfSome (F.held files.old) (λ held.
-        (Rose (F.faults files.old) (F.faults files.new) → ⊥) → (Rose (K.faults out.old) (K.faults out.new) → ⊥) → result ≢ Status.NoMemory →
-        GivesAnswer (texts words.now) held result (K.written out.old) (K.written out.new)) }
+        (Rose (F.faults files.old) (F.faults files.new) → ⊥) → (Rose (K.faults out.old) (K.faults out.new) → ⊥) →
+        result ≢ Status.NoMemory → GivesAnswer (texts words.now) held result (K.written out.old) (K.written out.new)) }
 
     // Words that are no request are refused, whatever files tell; where the sink fails, a prefix of their text is left.
     ensures words_refused { IfErr (request_in (texts words.now)) (λ text.

@@ -3,7 +3,7 @@ use Rattle.program_words.specs.Views.{request_seen}
 use Rattle.data_files.specs.Tables.{names_seen}
 use Rattle.data_files.specs.declared.stop.DataStop.TheVariants as reading
 use Rattle.floop_run.specs.Requests.{data_names}
-use Rattle.floop_run.specs.Answers.{refused, table_answer}
+use Rattle.floop_run.specs.Answers.{table_answer}
 use Rattle.floop_run.proofs.ReadLemmas.{every_of}
 use Rattle.floop_run.proofs.LegalLemmas.{table_is}
 use Rattle.floop_run.proofs.answer.legal_output.Goals as goal
@@ -28,8 +28,7 @@ pub returns-clause-output : goal.returns-clause-output
 returns-clause-output g c =
     let q = request_seen c.args.request.now in
     let why = c.in-Err-Refused.why in
-    let answer = c.in_ok-refusal-in-Err-Refused.ensures.answer ∙ ap refused (c.as_str.ensures.value ∙ c.in_ok-text-in-Err-Refused.ensures.ok) in
     every_of (g.F.Files.held c.args.files.now) _ _
-    (λ held is. answer ∙ sym (ap (λ t. table_answer t q.command c.args.legal.now) is))
+    (λ held is. c.in_ok-refusal_of-in-Err-Refused.ensures.answer ∙ sym (ap (λ t. table_answer t q.command c.args.legal.now) is))
     (table_is (g.F.Files.held c.args.files.now) (names_seen c.deref.result.now) (data_names q) c.read_data.result (Err (reading.Refused why)) (c.in-Err-Refused.is ∙ ap Err c.in-Err-Refused.field-0-is) (λ e. absurd (cc)) (λ e. absurd (cc))
     (ap names_seen c.deref.ensures.value ∙ c.in_ok-names.ensures) c.read_data.ensures.table)

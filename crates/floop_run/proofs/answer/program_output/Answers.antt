@@ -2,7 +2,6 @@ use Rattle.std.proofs.Common.{◌≡◌, Err, ap, sym, refl, ◌∙◌}
 use Rattle.std.proofs.lemmas.Result.{IfOk-weaker}
 use Rattle.program_words.specs.Views.{request_seen}
 use Rattle.legality_rules.specs.declared.refusal.LegalRefusal.TheVariants as legality
-use Rattle.floop_run.specs.Answers.{refused}
 use Rattle.floop_run.proofs.ReadLemmas.{every, every_of}
 use Rattle.floop_run.proofs.LegalLemmas.{legal_is, illegal_is}
 use Rattle.floop_run.proofs.answer.program_output.Goals as goal
@@ -23,11 +22,10 @@ returns-in-Ok-clause-read_fault g c =
     (λ held missed none fault. missed none fault ∙ sym (legal_is q held c.args.program c.in-Ok.legal c.in-Ok.ensures.same legal))
     c.legal_output.ensures.read_fault
 
-pub returns-in_ok-refusal-in-Err-Illegal-clause-output : goal.returns-in_ok-refusal-in-Err-Illegal-clause-output
-returns-in_ok-refusal-in-Err-Illegal-clause-output g c =
+pub returns-in_ok-refusal_of-in-Err-Illegal-clause-output : goal.returns-in_ok-refusal_of-in-Err-Illegal-clause-output
+returns-in_ok-refusal_of-in-Err-Illegal-clause-output g c =
     let q = request_seen c.args.request.now in
     let offence = c.in-Err-Illegal.offence in
-    let answer = c.in_ok-refusal-in-Err-Illegal.ensures.answer ∙ ap refused (c.as_str.ensures.value ∙ c.in_ok-text-in-Err-Illegal.ensures.ok) in
     let found : c.check_program.result ≡ Err (legality.Illegal offence) = c.in-Err-Illegal.is ∙ ap Err c.in-Err-Illegal.field-0-is in
     every (g.F.Files.held c.args.files.now) _
-    (λ held. answer ∙ sym (illegal_is q held c.args.program c.check_program.result offence found (c.check_program.ensures.first offence)))
+    (λ held. c.in_ok-refusal_of-in-Err-Illegal.ensures.answer ∙ sym (illegal_is q held c.args.program c.check_program.result offence found (c.check_program.ensures.first offence)))
