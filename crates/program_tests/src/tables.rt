@@ -4,7 +4,7 @@ use crate::run::{Row, check};
 use floop_run::Status;
 use std::test::Fail;
 
-static RUNS: [Row; 9] = [
+static RUNS: [Row; 10] = [
     (
         "for t in col(\"v\")\n@reduce s += int(t)\n@reduce p = prod(int(t))\nend\nprint s\nprint p\n",
         "v\n9223372036854775807\n9223372036854775807\n",
@@ -14,6 +14,12 @@ static RUNS: [Row; 9] = [
         "for (g, q) in zip(col(\"region\"), col(\"qty\"))\nlet n = int(q)\n@reduce total += n\n@reduce by = group(g, sum(n))\nend\nprint total\nprint by\n",
         "region,qty\r\n\"north\",10\r\nsouth,5\r\nnorth,7\r\n",
         "22\n{north: 17, south: 5}\n",
+    ),
+    // the same without the groups
+    (
+        "for (g, q) in zip(col(\"region\"), col(\"qty\"))\nlet n = int(q)\n@reduce total += n\nend\nprint total\n",
+        "region,qty\r\n\"north\",10\r\nsouth,5\r\nnorth,7\r\n",
+        "22\n",
     ),
     (
         "for t in col(\"v\")\n@reduce b = argmax(int(t))\n@reduce c = argmin(int(t))\nend\nprint b\nprint c\n",
@@ -81,6 +87,7 @@ static REFUSED: [Row; 11] = [
         "a,b\n1,2\n",
         "line 1: no column zzz\n",
     ),
+    // empty lines are no records
     ("for t in col(\"v\")\nend\n", "\n", "data: no header\n"),
     // without data the table has no column
     ("for t in col(\"v\")\nend\n", "", "line 1: no column v\n"),
@@ -91,7 +98,7 @@ static REFUSED: [Row; 11] = [
     ),
     (
         "for t in col(\"v\")\nend\n",
-        "v\n1\n|\n",
+        "v\n1\n|",
         "data file 2: no header\n",
     ),
     (

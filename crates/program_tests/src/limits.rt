@@ -1,0 +1,110 @@
+//! Files at the limits of their lengths, lines, columns and fields.
+
+use crate::run::{bytes_of, check_call, words_of};
+use floop_run::Status;
+use std::alloc::{AllocError, Global};
+use std::test::Fail;
+
+/// Bytes, so many times.
+type Piece = (&'static [u8], u64);
+
+/// The pieces one after another.
+fn filled(alloc: Global, pieces: &[Piece]) -> Result<Vec<u8>, AllocError> {
+    let mut bytes = Vec::new(alloc);
+    for (piece, times) in pieces {
+        for _ in 0..*times {
+            bytes.extend_from_slice(piece)?;
+        }
+    }
+    Ok(bytes)
+}
+
+// 41 bytes, behind which a comment fills the file
+const TEN: &[u8] = b"for x in 1:10\n@reduce s += x\nend\nprint s\n";
+
+/// A loop file, what `run` writes of it, and the status.
+static LOOPS: [(&[Piece], &[u8], Status); 6] = [
+    (&[(TEN, 1), (b"#", 65495)], b"55\n", Status::Done),
+    (
+        &[(TEN, 1), (b"#", 65496)],
+        b"loop file: over 65536 bytes\n",
+        Status::Refused,
+    ),
+    (
+        &[
+            (b"for x in 1:2\n", 1),
+            (b"@reduce s += x\n", 64),
+            (b"end\nprint s\n", 1),
+        ],
+        b"192\n",
+        Status::Done,
+    ),
+    (
+        &[
+            (b"for x in 1:2\n", 1),
+            (b"@reduce s += x\n", 65),
+            (b"end\nprint s\n", 1),
+        ],
+        b"line 66: over 64 reduce lines\n",
+        Status::Refused,
+    ),
+    // the loop's block is the first of 16
+    (
+        &[
+            (b"for x in 1:2\n", 1),
+            (b"if x > 1\n", 15),
+            (b"@reduce s += x\n", 1),
+            (b"end\n", 16),
+            (b"print s\n", 1),
+        ],
+        b"2\n",
+        Status::Done,
+    ),
+    (
+        &[(b"for x in 1:2\n", 1), (b"if x > 1\n", 16), (b"end\n", 17)],
+        b"line 17: too deep\n",
+        Status::Refused,
+    ),
+];
+
+#[test]
+fn loop_files(rt: HostRuntime) -> Result<(), Fail> {
+    let alloc = rt.alloc();
+    let words = words_of(alloc, &["run", "loop=loop"])?;
+    for (pieces, written, wanted) in &LOOPS {
+        let text = filled(alloc, pieces)?;
+        let mut files = bytes_of(alloc, &text, b"")?;
+        check_call(&rt, alloc, &words, &mut files, written, *wanted);
+    }
+    Ok(())
+}
+
+const COLUMN: &[u8] = b"for t in col(\"v\")\n@reduce c = count()\nend\nprint c\n";
+
+// 64 empty fields
+const FIELDS: &[u8] = b",,,,,,,,,,,,,,,,,,,,,,,,,,,,,,,,,,,,,,,,,,,,,,,,,,,,,,,,,,,,,,,\n";
+
+/// A data file, and why it is refused.
+static TABLES: [(&[Piece], &[u8]); 3] = [
+    (
+        &[(FIELDS, 1048576), (b",", 1)],
+        b"data file: over 67108864 bytes\n",
+    ),
+    (
+        &[(b",", 1024), (b"\n", 1)],
+        b"data: 1025 columns, at most 1024\n",
+    ),
+    (&[(FIELDS, 262145)], b"data: over 16777216 fields\n"),
+];
+
+#[test]
+fn data_files(rt: HostRuntime) -> Result<(), Fail> {
+    let alloc = rt.alloc();
+    let words = words_of(alloc, &["run", "loop=loop", "data=1"])?;
+    for (pieces, line) in &TABLES {
+        let data = filled(alloc, pieces)?;
+        let mut files = bytes_of(alloc, COLUMN, &data)?;
+        check_call(&rt, alloc, &words, &mut files, line, Status::Refused);
+    }
+    Ok(())
+}
