@@ -4,7 +4,7 @@ use crate::run::{Row, check};
 use floop_run::Status;
 use std::test::Fail;
 
-static RUNS: [Row; 10] = [
+static RUNS: [Row; 11] = [
     (
         "for t in col(\"v\")\n@reduce s += int(t)\n@reduce p = prod(int(t))\nend\nprint s\nprint p\n",
         "v\n9223372036854775807\n9223372036854775807\n",
@@ -40,6 +40,12 @@ static RUNS: [Row; 10] = [
         "for t in col(\"v\")\n@keep n = tryint(t)\n@reduce l = list(n)\nend\nprint l\n",
         "v\n4\nx\n 7 \n",
         "[4, 7]\n",
+    ),
+    // a break in a table: the row that breaks and those behind it emit nothing
+    (
+        "for (who, h) in zip(col(\"who\"), col(\"hours\"))\nlet n = int(h)\nif n == 0\nbreak\nend\n@reduce by = group(who, sum(n))\n@reduce most = argmax(n)\nend\nprint by\nprint most\n",
+        "who,hours\nann,8\nbo,5\nann,8\nbo,0\ncy,7\n",
+        "{ann: 16, bo: 5}\n8 at 1\n",
     ),
     // a result that holds an LF is one result
     (
