@@ -10,7 +10,7 @@ use Rattle.loop_data.specs.declared.expr.Expr.{Expr}
 use Rattle.loop_data.specs.declared.tower.TowerExpr.{TowerExpr}
 use Rattle.loop_values.specs.Bindings.{Bindings, Names, place_name}
 use Rattle.loop_values.specs.Fits.{Agree}
-use Rattle.loop_values.specs.Kinds.{Kinds, AreWellFormed, is_bool, is_maybe, kind_of}
+use Rattle.loop_values.specs.Kinds.{AreWellFormed, is_bool, is_maybe, kind_of}
 use Rattle.tower_inputs.specs.Inputs.{input_of}
 use Rattle.tower_inputs.specs.Laws.{HasPlace}
 use Rattle.legality_rules.specs.Scopes.{Scope, fits_pattern, is_known, item_kind, kinds_in}
@@ -80,7 +80,7 @@ pub record EntryFits (test : Test) (entry : Entry) : Type 0 where
 -- A body run fits: the names of the outer scope are bound to values that fit, `place` to a place, and where it goes on also the
 -- names in scope; what it emitted passes the test.
 pub record RunFits (test : Test) (outer scope : Scope) (run : BodyRun) : Type 0 where
-  pub outer : FitScope outer run.names
+  pub around : FitScope outer run.names
   pub placed : HasPlace (get run.names)
   pub going : run.flow ≡ Going → FitScope scope run.names
   pub emitted : list_all test run.emitted ≡ true
