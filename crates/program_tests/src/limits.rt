@@ -3,6 +3,7 @@
 use crate::run::{bytes_of, check_call, words_of};
 use floop_run::Status;
 use std::alloc::{AllocError, Global};
+use std::process::Abort;
 use std::test::Fail;
 
 /// Bytes, so many times.
@@ -84,27 +85,43 @@ const COLUMN: &[u8] = b"for t in col(\"v\")\n@reduce c = count()\nend\nprint c\n
 // 64 empty fields
 const FIELDS: &[u8] = b",,,,,,,,,,,,,,,,,,,,,,,,,,,,,,,,,,,,,,,,,,,,,,,,,,,,,,,,,,,,,,,\n";
 
-/// A data file, and why it is refused.
-static TABLES: [(&[Piece], &[u8]); 3] = [
-    (
-        &[(FIELDS, 1048576), (b",", 1)],
-        b"data file: over 67108864 bytes\n",
-    ),
-    (
-        &[(b",", 1024), (b"\n", 1)],
-        b"data: 1025 columns, at most 1024\n",
-    ),
-    (&[(FIELDS, 262145)], b"data: over 16777216 fields\n"),
-];
+/// Data files of too many bytes, columns and fields, each by one, and why they are refused.
+static LONG: (&[Piece], &[u8]) = (
+    &[(FIELDS, 1048576), (b",", 1)],
+    b"data file: over 67108864 bytes\n",
+);
+
+static WIDE: (&[Piece], &[u8]) = (
+    &[(b",", 1024), (b"\n", 1)],
+    b"data: 1025 columns, at most 1024\n",
+);
+
+static MANY: (&[Piece], &[u8]) = (&[(FIELDS, 262145)], b"data: over 16777216 fields\n");
+
+/// A loop over a column of the data file is refused with this line.
+fn check_data(
+    rt: &impl Abort,
+    alloc: Global,
+    refused: &(&'static [Piece], &'static [u8]),
+) -> Result<(), Fail> {
+    let words = words_of(alloc, &["run", "loop=loop", "data=1"])?;
+    let data = filled(alloc, refused.0)?;
+    let mut files = bytes_of(alloc, COLUMN, &data)?;
+    check_call(rt, alloc, &words, &mut files, refused.1, Status::Refused);
+    Ok(())
+}
 
 #[test]
-fn data_files(rt: HostRuntime) -> Result<(), Fail> {
-    let alloc = rt.alloc();
-    let words = words_of(alloc, &["run", "loop=loop", "data=1"])?;
-    for (pieces, line) in &TABLES {
-        let data = filled(alloc, pieces)?;
-        let mut files = bytes_of(alloc, COLUMN, &data)?;
-        check_call(&rt, alloc, &words, &mut files, line, Status::Refused);
-    }
-    Ok(())
+fn long_data_files(rt: HostRuntime) -> Result<(), Fail> {
+    check_data(&rt, rt.alloc(), &LONG)
+}
+
+#[test]
+fn wide_data_files(rt: HostRuntime) -> Result<(), Fail> {
+    check_data(&rt, rt.alloc(), &WIDE)
+}
+
+#[test]
+fn data_files_of_many_fields(rt: HostRuntime) -> Result<(), Fail> {
+    check_data(&rt, rt.alloc(), &MANY)
 }
