@@ -4,7 +4,7 @@ use crate::run::{Row, check};
 use floop_run::Status;
 use std::test::Fail;
 
-static RUNS: [Row; 11] = [
+static RUNS: [Row; 12] = [
     (
         "for t in col(\"v\")\n@reduce s += int(t)\n@reduce p = prod(int(t))\nend\nprint s\nprint p\n",
         "v\n9223372036854775807\n9223372036854775807\n",
@@ -30,6 +30,12 @@ static RUNS: [Row; 11] = [
         "for t in col(\"v\")\n@reduce b = argmax(int(t))\n@reduce c = argmin(int(t))\nend\nprint b\nprint c\n",
         "v",
         "nothing\nnothing\n",
+    ),
+    // each tower
+    (
+        "for t in col(\"v\")\nlet n = int(t)\n@reduce a = sum(n)\n@reduce b = prod(n)\n@reduce c = count()\n@reduce d = min(n)\n@reduce e = max(n)\n@reduce f = argmin(n)\n@reduce g = argmax(n)\n@reduce h = first(n)\n@reduce i = last(n)\n@reduce j = any(n > 5)\n@reduce k = all(n > 5)\n@reduce l = list(n)\n@reduce m = group(t, count())\n@reduce o = both(min(n), count())\nend\nprint a\nprint b\nprint c\nprint d\nprint e\nprint f\nprint g\nprint h\nprint i\nprint j\nprint k\nprint l\nprint m\nprint o\n",
+        "v\n3\n9\n4\n9\n",
+        "25\n972\n4\n3\n9\n3 at 1\n9 at 2\n3\n9\ntrue\nfalse\n[3, 9, 4, 9]\n{3: 1, 4: 1, 9: 2}\n(3, 4)\n",
     ),
     (
         "for (n, t) in zip(1:5, col(\"a\"))\n@reduce l = list(n)\nend\nprint l\n",
