@@ -1,6 +1,8 @@
-//! What holds of legal loops, for readers and for callers' proofs: each function is empty, and its contract is the law.
+//! What holds of legal loops, for readers and for callers' proofs: each function does nothing, and its contract is the law.
 
 ghost use Rattle.fitting_inputs.specs.Laws.{BlocksFit, ItemsFit, LegalRunsFit, LegalStartsFit, LinesAreSites, ReducersAgree, ReduceLinesAreFew};
+
+use legality_check::laws::legal_inputs_fit;
 
 /// From a body run whose names fit the kinds of the names in scope, a block whose lines fit leaves such a body run.
 pub fn blocks_keep_runs_fitting()
@@ -23,7 +25,10 @@ pub fn legal_reducers_have_one_tower()
     ensures towers { ReducersAgree }
     ensures starts { LegalStartsFit }
     ensures few { ReduceLinesAreFew }
-{}
+{
+    // that start values fit is a part of that law
+    legal_inputs_fit();
+}
 
 /// The `@reduce` lines are those by which the inputs of a name are told.
 pub fn reduce_lines_are_sites()

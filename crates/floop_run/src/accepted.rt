@@ -24,7 +24,7 @@ pub(crate) fn accepted_output(
     ensures answered { IfOk result (λ o. IsAnswered o.status) }
 {
     let items = head.count();
-    let reducers = row_of(alloc, legal.program())?.towers.len();
+    let reducers = row_of(alloc, legal)?.towers.len();
     let line = format!(in alloc; "accepted: {items} items, {reducers} reducers\n")?;
     one_line(alloc, Status::Done, line)
 }

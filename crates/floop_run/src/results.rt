@@ -101,7 +101,7 @@ pub(crate) fn run_output(
     ensures answer { IfOk result (λ o. answer_in o ≡ run_answer legal.now (whole_run legal.now head.now.items)) }
     ensures answered { IfOk result (λ o. IsAnswered o.status) }
 {
-    let row = row_of(alloc, legal.program())?;
+    let row = row_of(alloc, legal)?;
     match fold_plain(alloc, legal.program(), head, &row)? {
         PathEnd::Done { state, skipped } => done_output(alloc, legal, &row, &state, skipped),
         PathEnd::Faulted { at, line, kind } => {

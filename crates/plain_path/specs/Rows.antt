@@ -1,46 +1,21 @@
 -- The row of a program's reducers, and the pairs of a run as inputs of its towers.
 -- Source: this project.
-use Rattle.std.specs.Prelude.{ℕ, Bool, true, not, if◌then◌else◌, List, [], ◌∷◌, ◌++◌, map, filter, slice_get, Option, Some, None}
+use Rattle.std.specs.Prelude.{ℕ, Bool, true, List, [], ◌∷◌, ◌++◌, map, slice_get, Option, Some, None}
 use Rattle.std.specs.List.{list_all}
-use Rattle.std.specs.Str.{bytes_eq}
 use Rattle.loop_data.specs.declared.value.Value.{Value}
-use Rattle.loop_data.specs.declared.tower.Kind.{Kind}
-use Rattle.loop_data.specs.declared.statement.Statement.{Statement}
-use Rattle.loop_data.specs.declared.statement.Statement.TheOpen.{Statement-F, Statement-F as s, Branch-F}
-use Rattle.loop_data.specs.declared.statement.Branch.{Branch}
-use Rattle.loop_data.specs.declared.statement.Statement.TheFolds.{fold-Statement, fold-Branch}
 use Rattle.loop_values.specs.Fits.{fits_tower}
-use Rattle.tower_inputs.specs.Towers.{kind_of_tower}
 use Rattle.loop_grammar.specs.declared.tree.ProgramTree.{ProgramTree}
 use Rattle.loop_meaning.specs.declared.steps.Emitted.{Emitted as Pair}
 use Rattle.reducer_tower.specs.declared.row.Emitted.{Emitted}
 use Rattle.reducer_tower.specs.declared.named.Named.{Named}
 use Rattle.reducer_tower.specs.Rows.{number_of, named_tower}
+use Rattle.fitting_inputs.specs.ReduceLines.{ReduceLine, reduce_lines}
 
 -- ---- the row
 
-abbrev pub all_lines : List (List Named) → List Named
-all_lines [] = []
-all_lines (lines ∷ more) = lines ++ all_lines more
-
-abbrev pub branch_lines : Branch-F (List Named) (List Named) → List Named
-branch_lines b = all_lines b.block
-
--- one layer of a statement, given the `@reduce` lines of its parts, each as a named tower with its start value
-abbrev pub lines_step : Statement-F (List Named) (List Named) → List Named
-lines_step (s.If line branches else_line other end_line) = all_lines branches ++ all_lines other
-lines_step (s.Reduce line name tower start) = named_tower name (kind_of_tower tower) start ∷ []
-lines_step _ = []
-
-abbrev pub lines_in : Statement → List Named
-lines_in = fold-Statement (List Named) (List Named) lines_step branch_lines
-
-abbrev pub lines_in_branch : Branch → List Named
-lines_in_branch = fold-Branch (List Named) (List Named) lines_step branch_lines
-
--- the `@reduce` lines of a program, by rising lines
-abbrev pub lines_of : ProgramTree → List Named
-lines_of program = all_lines (map lines_in program.body)
+-- the tower of an `@reduce` line, with the line's name and start value
+abbrev pub named_line : ReduceLine → Named
+named_line line = named_tower line.name line.kind line.start
 
 abbrev pub unless_there : Option ℕ → List Named → Named → List Named
 unless_there None row line = row ++ line ∷ []
@@ -56,7 +31,7 @@ with_lines row (line ∷ lines) = with_lines (with_line row line) lines
 
 -- the reducers of a program in the order of their first `@reduce` lines, each with the kind and the start value of that line
 abbrev pub row_of : ProgramTree → List Named
-row_of program = with_lines [] (lines_of program)
+row_of program = with_lines [] (map named_line (reduce_lines program))
 
 -- ---- pairs
 

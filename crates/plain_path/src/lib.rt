@@ -6,6 +6,7 @@
 #![tactic(auto)]
 
 mod fold;
+pub mod laws;
 mod row;
 
 pub use fold::{PathEnd, fold_plain};

@@ -2,13 +2,14 @@
 
 ghost use Rattle.std.specs.Prelude.{◌≡◌, ◌<◌, ◌≤◌, ◌^◌, ◌++◌, ◌∷◌, [], true, IfOk, OnOk, length, map};
 ghost use Rattle.std.specs.List.{list_all};
-ghost use Rattle.legality_rules.specs.Offences.{IsLegal};
 ghost use Rattle.reducer_tower.specs.Rows.{named_tower, start_fits};
 ghost use Rattle.tower_inputs.specs.Towers.{kind_of_tower};
-ghost use Rattle.plain_path.specs.Rows.{all_lines, lines_in, lines_in_branch, lines_of, with_line, with_lines, row_of};
+ghost use Rattle.fitting_inputs.specs.ReduceLines.{all_lines, lines_in, lines_in_branch, reduce_lines};
+ghost use Rattle.plain_path.specs.Rows.{named_line, with_line, with_lines, row_of};
 
+use legality_check::LegalProgram;
 use loop_data::{Branch, Statement, TextValue, TowerExpr, Value};
-use loop_syntax::Program;
+use loop_grammar::ProgramTree;
 use no_memory::NoMemory;
 use reducer_tower::{Named, Row, Tower};
 use std::alloc::Global;
@@ -51,7 +52,7 @@ fn push_statement(
     statement: &Statement,
     lines: &mut Vec<Named>,
 ) -> Result<(), NoMemory>
-    ensures { OnOk result (lines.new.items ≡ lines.old.items ++ lines_in statement.now) }
+    ensures { OnOk result (lines.new.items ≡ lines.old.items ++ map named_line (lines_in statement.now)) }
 {
     match statement {
         Statement::If {
@@ -77,7 +78,7 @@ fn push_statement(
 #[cycle(lines)]
 fn push_branches(alloc: Global, branches: &[Branch], lines: &mut Vec<Named>) -> Result<(), NoMemory>
     ensures { OnOk result (lines.new.items
-        ≡ lines.old.items ++ all_lines (map lines_in_branch branches.now)) }
+        ≡ lines.old.items ++ map named_line (all_lines (map lines_in_branch branches.now))) }
 {
     for branch in branches {
         push_block(alloc, branch.block.as_slice(), lines)?;
@@ -88,7 +89,7 @@ fn push_branches(alloc: Global, branches: &[Branch], lines: &mut Vec<Named>) -> 
 #[cycle(lines)]
 fn push_block(alloc: Global, block: &[Statement], lines: &mut Vec<Named>) -> Result<(), NoMemory>
     ensures { OnOk result (lines.new.items
-        ≡ lines.old.items ++ all_lines (map lines_in block.now)) }
+        ≡ lines.old.items ++ map named_line (all_lines (map lines_in block.now))) }
 {
     for statement in block {
         push_statement(alloc, statement, lines)?;
@@ -97,11 +98,11 @@ fn push_block(alloc: Global, block: &[Statement], lines: &mut Vec<Named>) -> Res
 }
 
 /// The `@reduce` lines of a program, by rising lines, each as a named tower with its start value.
-fn lines_of(alloc: Global, program: &Program) -> Result<Vec<Named>, NoMemory>
-    ensures { IfOk result (λ lines. lines.items ≡ lines_of program.now) }
+fn lines_of(alloc: Global, program: &ProgramTree) -> Result<Vec<Named>, NoMemory>
+    ensures { IfOk result (λ lines. lines.items ≡ map named_line (reduce_lines program.now)) }
 {
     let mut lines = Vec::new(alloc);
-    push_block(alloc, program.body().as_slice(), &mut lines)?;
+    push_block(alloc, program.body.as_slice(), &mut lines)?;
     Ok(lines)
 }
 
@@ -132,10 +133,9 @@ fn with_lines(alloc: Global, lines: Vec<Named>) -> Result<Row, NoMemory>
 }
 
 /// The reducers of a legal program, in the order of their first `@reduce` lines, each with the kind and the start value of that line.
-pub fn row_of(alloc: Global, program: &Program) -> Result<Row, NoMemory>
-    requires { IsLegal program.now }
-    ensures { IfOk result (λ row. row.towers.items ≡ row_of program.now) }
+pub fn row_of(alloc: Global, legal: &LegalProgram) -> Result<Row, NoMemory>
+    ensures { IfOk result (λ row. row.towers.items ≡ row_of legal.now) }
 {
-    let lines = lines_of(alloc, program)?;
+    let lines = lines_of(alloc, legal.program().tree())?;
     with_lines(alloc, lines)
 }

@@ -1,0 +1,57 @@
+-- Pairs that fit their reducers fit the towers of the row; and so do the start values of a legal program.
+use Rattle.std.proofs.Common.{◌≡◌, ℕ, Bool, true, false, Option, Some, None, List, [], ◌∷◌, map, refl, ap, ◌∙◌}
+use Rattle.std.specs.Prelude.{◌&&◌, option_and_then, slice_get}
+use Rattle.std.specs.List.{AllByRecursion, list_all}
+use Rattle.loop_data.specs.declared.value.Value.{Value}
+use Rattle.loop_data.specs.declared.tower.Kind.{Kind}
+use Rattle.loop_grammar.specs.declared.tree.ProgramTree.{ProgramTree}
+use Rattle.loop_meaning.specs.declared.steps.Emitted.{Emitted as Pair}
+use Rattle.reducer_tower.specs.declared.named.Named.{Named}
+use Rattle.reducer_tower.specs.Rows.{fits_start, number_of, start_fits}
+use Rattle.fitting_inputs.specs.ReduceLines.{ReduceLine, StartFits, fits_kind, fits_reducer}
+use Rattle.plain_path.specs.Laws.{FittingPairsFitRow}
+use Rattle.plain_path.specs.Rows.{fits_named, fits_number, named_line, pairs_fit, row_of}
+use Rattle.plain_path.proofs.RowLemmas.{at_number, first_of, kind_under, row_kind}
+
+both : (a b : Bool) → (a && b) ≡ true → (a ≡ true) × (b ≡ true)
+both true b e = (refl, e)
+both false b e = absurd (cc)
+
+and_both : (a b : Bool) → a ≡ true → b ≡ true → (a && b) ≡ true
+and_both true b e h = h
+and_both false b e h = e
+
+-- ---- pairs
+
+fits_found : (row : List Named) (o : Option ℕ) (input : Value) → fits_number row o input ≡ fits_named (option_and_then (slice_get row) o) input
+fits_found row None input = refl
+fits_found row (Some i) input = refl
+
+fits_so : (o : Option Named) (input : Value) → fits_kind (kind_under o) input ≡ true → fits_named o input ≡ true
+fits_so None input e = refl
+fits_so (Some named) input e = e
+
+pair_fits : (program : ProgramTree) (pair : Pair) → fits_reducer program pair ≡ true → fits_number (row_of program) (number_of pair.name (row_of program)) pair.input ≡ true
+pair_fits program pair e =
+    let row = row_of program in
+    fits_found row (number_of pair.name row) pair.input
+    ∙ ap (λ o. fits_named o pair.input) (at_number row pair.name)
+    ∙ fits_so (first_of pair.name row) pair.input (ap (λ k. fits_kind k pair.input) (row_kind program pair.name) ∙ e)
+
+pub fitting_pairs_fit : FittingPairsFitRow
+fitting_pairs_fit program [] e = refl
+fitting_pairs_fit program (pair ∷ pairs) e =
+    let parts = both (fits_reducer program pair) (list_all (fits_reducer program) pairs) e in
+    and_both (fits_number (row_of program) (number_of pair.name (row_of program)) pair.input) (pairs_fit (row_of program) pairs)
+    (pair_fits program pair parts.0) (fitting_pairs_fit program pairs parts.1)
+
+-- ---- start values
+
+start_so : (kind : Kind) (start : Option Value) → StartFits start kind → fits_start kind start ≡ true
+start_so kind None h = refl
+start_so kind (Some start) h = h
+
+pub starts_so : (lines : List ReduceLine) → AllByRecursion (λ (line : ReduceLine). StartFits line.start line.kind) lines → list_all start_fits (map named_line lines) ≡ true
+starts_so [] h = refl
+starts_so (line ∷ lines) h =
+    and_both (start_fits (named_line line)) (list_all start_fits (map named_line lines)) (start_so line.kind line.start h.0) (starts_so lines h.1)

@@ -1,0 +1,3 @@
+pub mod FitLemmas
+pub mod InputLemmas
+pub mod RowLemmas
