@@ -133,20 +133,20 @@ fn files_that_are_not_held(rt: HostRuntime) -> Result<(), Fail> {
 }
 
 // The loop file's own refusal comes before a data file is looked at, and a file before the next one.
-static EARLIER: [(&str, &str, &[u8]); 3] = [
+static EARLIER: [(&str, &[&str], &[u8]); 3] = [
     (
         "for x in 1:3\nlet y = z\nend\n",
-        "data=nowhere",
+        &["run", "loop=loop", "data=nowhere"],
         b"line 2: unknown name z\n",
     ),
     (
         "foo\n",
-        "data=nowhere",
+        &["run", "loop=loop", "data=nowhere"],
         b"line 1: not a line of the language\n",
     ),
     (
         "for t in col(\"v\")\nend\n",
-        "data=1,nowhere",
+        &["run", "loop=loop", "data=1,nowhere"],
         b"data file 1: no header\n",
     ),
 ];
@@ -154,8 +154,8 @@ static EARLIER: [(&str, &str, &[u8]); 3] = [
 #[test]
 fn refusals_before_files_that_are_not_held(rt: HostRuntime) -> Result<(), Fail> {
     let alloc = rt.alloc();
-    for (text, data, line) in &EARLIER {
-        let words = words_of(alloc, &["run", "loop=loop", data])?;
+    for (text, words, line) in &EARLIER {
+        let words = words_of(alloc, words)?;
         let mut files = files_of(alloc, text, "")?;
         check_call(&rt, alloc, &words, &mut files, line, Status::Refused);
     }

@@ -49,7 +49,7 @@ fn data_word(data: &str) -> &'static str {
 }
 
 /// The words of a row under a command.
-fn row_words(alloc: Global, command: &str, data: &str) -> Result<Vec<String>, Fail> {
+fn row_words(alloc: Global, command: &'static str, data: &str) -> Result<Vec<String>, Fail> {
     if data.is_empty() {
         return words_of(alloc, &[command, "loop=loop"]);
     }
@@ -75,7 +75,7 @@ pub fn check_call(
 pub fn check(
     rt: &impl Abort,
     alloc: Global,
-    command: &str,
+    command: &'static str,
     rows: &[Row],
     wanted: Status,
 ) -> Result<(), Fail> {
