@@ -1,14 +1,19 @@
 -- Pairs that fit their reducers fit the towers of the row; and so do the start values of a legal program.
-use Rattle.std.proofs.Common.{◌≡◌, ℕ, Bool, true, false, Option, Some, None, List, [], ◌∷◌, map, refl, ap, ◌∙◌}
+use Rattle.std.proofs.Common.{◌≡◌, ℕ, ◌<◌, ◌^◌, Bool, true, false, Option, Some, None, List, [], ◌∷◌, length, map, refl, ap, ◌∙◌, arith}
 use Rattle.std.specs.Prelude.{◌&&◌, option_and_then, slice_get}
 use Rattle.std.specs.List.{AllByRecursion, list_all}
+use Rattle.std.proofs.lemmas.List.{length-map}
 use Rattle.loop_data.specs.declared.value.Value.{Value}
 use Rattle.loop_data.specs.declared.tower.Kind.{Kind}
 use Rattle.loop_grammar.specs.declared.tree.ProgramTree.{ProgramTree}
+use Rattle.loop_grammar.specs.WellFormed.{is_well_formed}
+use Rattle.loop_syntax.proofs.WellFormedTexts.{well_formed_is_spelled}
+use Rattle.legality_rules.specs.Offences.{IsLegal}
 use Rattle.loop_meaning.specs.declared.steps.Emitted.{Emitted as Pair}
 use Rattle.reducer_tower.specs.declared.named.Named.{Named}
 use Rattle.reducer_tower.specs.Rows.{fits_start, number_of, start_fits}
-use Rattle.fitting_inputs.specs.ReduceLines.{ReduceLine, StartFits, fits_kind, fits_reducer}
+use Rattle.fitting_inputs.specs.Laws.{LegalStartsFit, ReduceLinesAreFew}
+use Rattle.fitting_inputs.specs.ReduceLines.{ReduceLine, StartFits, fits_kind, fits_reducer, reduce_lines}
 use Rattle.plain_path.specs.Laws.{FittingPairsFitRow}
 use Rattle.plain_path.specs.Rows.{fits_named, fits_number, named_line, pairs_fit, row_of}
 use Rattle.plain_path.proofs.RowLemmas.{at_number, first_of, kind_under, row_kind}
@@ -51,7 +56,15 @@ start_so : (kind : Kind) (start : Option Value) → StartFits start kind → fit
 start_so kind None h = refl
 start_so kind (Some start) h = h
 
-pub starts_so : (lines : List ReduceLine) → AllByRecursion (λ (line : ReduceLine). StartFits line.start line.kind) lines → list_all start_fits (map named_line lines) ≡ true
-starts_so [] h = refl
-starts_so (line ∷ lines) h =
-    and_both (start_fits (named_line line)) (list_all start_fits (map named_line lines)) (start_so line.kind line.start h.0) (starts_so lines h.1)
+lines_so : (lines : List ReduceLine) → AllByRecursion (λ (line : ReduceLine). StartFits line.start line.kind) lines → list_all start_fits (map named_line lines) ≡ true
+lines_so [] h = refl
+lines_so (line ∷ lines) h =
+    and_both (start_fits (named_line line)) (list_all start_fits (map named_line lines)) (start_so line.kind line.start h.0) (lines_so lines h.1)
+
+-- from the laws of fitting_inputs: each start value of a legal program fits its tower
+pub starts_fit : LegalStartsFit → (program : ProgramTree) → is_well_formed program ≡ true → IsLegal program → list_all start_fits (map named_line (reduce_lines program)) ≡ true
+starts_fit starts program formed legal = lines_so (reduce_lines program) (starts _ program (well_formed_is_spelled program formed) legal)
+
+-- and it has few lines
+pub lines_are_few : ReduceLinesAreFew → (program : ProgramTree) → IsLegal program → length (map named_line (reduce_lines program)) < 2 ^ 32
+lines_are_few few program legal = omega (arith, few program legal, length-map (reduce_lines program) named_line)

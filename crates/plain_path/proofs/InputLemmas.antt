@@ -66,6 +66,9 @@ start_in (first ∷ row) i k (suc j) named e at =
 
 -- ---- pairs
 
+abbrev under : List ℕ → List Pair → List Pair
+under name pairs = filter (λ (x : Pair). bytes_eq x.name name) pairs
+
 -- the pair of the tower's name is its input, and no other
 module _ (row : List Named) (name : List ℕ) (i : ℕ) (named : Named) (e : number_of name row ≡ Some i) (at : slice_get row i ≡ Some named) where
   one_input : (pair : Pair) (b : Bool) → bytes_eq pair.name name ≡ b → inputs_of i (input_for (number_of pair.name row) pair.input) ≡ cond b (pair.input ∷ []) []
@@ -95,7 +98,7 @@ module _ (row : List Named) (name : List ℕ) (i : ℕ) (named : Named) (e : num
       ∙ ap₂ (λ xs ys. xs ++ ys) (one_input pair (bytes_eq pair.name name) refl) (numbered_under pairs)
       ∙ put (bytes_eq pair.name name)
     where
-      put : (b : Bool) → cond b (pair.input ∷ []) [] ++ emitted_under name pairs ≡ map (λ (x : Pair). x.input) (cond b (pair ∷ filter (λ (x : Pair). bytes_eq x.name name) pairs) (filter (λ (x : Pair). bytes_eq x.name name) pairs))
+      put : (b : Bool) → cond b (pair.input ∷ []) [] ++ emitted_under name pairs ≡ map (λ (x : Pair). x.input) (cond b (pair ∷ under name pairs) (under name pairs))
       put true = refl
       put false = refl
 

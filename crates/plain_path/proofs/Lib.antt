@@ -1,3 +1,5 @@
 pub mod FitLemmas
+pub mod FoldLemmas
 pub mod InputLemmas
+pub mod PairLemmas
 pub mod RowLemmas

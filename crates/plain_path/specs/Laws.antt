@@ -13,7 +13,8 @@ use Rattle.plain_path.specs.Rows.{numbered, pairs_fit, row_of}
 
 -- the names of the row are those of the program's reducers, each once, in the order of their first lines
 abbrev pub RowHasReducers : Type 0
-RowHasReducers = (program : ProgramTree) → map (λ (named : Named). named.name) (row_of program) ≡ reducers_of program
+RowHasReducers = (program : ProgramTree) →
+    map (λ (named : Named). named.name) (row_of program) ≡ reducers_of program
 
 -- the tower under a name has the kind and the start value of the first `@reduce` line of this name
 abbrev pub RowKeepsFirstLines : Type 0
@@ -23,13 +24,16 @@ RowKeepsFirstLines = (program : ProgramTree) (name : List ℕ) (i : ℕ) (named 
 
 -- a name under which the row has no tower is no reducer's
 abbrev pub OthersHaveNoTower : Type 0
-OthersHaveNoTower = (program : ProgramTree) (name : List ℕ) → number_of name (row_of program) ≡ None → reducer_kind program name ≡ None
+OthersHaveNoTower = (program : ProgramTree) (name : List ℕ) →
+    number_of name (row_of program) ≡ None → reducer_kind program name ≡ None
 
 -- the inputs of the tower under a name, behind the start values, are the inputs of this name
 abbrev pub RowHasInputs : Type 0
-RowHasInputs = (program : ProgramTree) (pairs : List Pair) (name : List ℕ) (i : ℕ) → number_of name (row_of program) ≡ Some i →
+RowHasInputs = (program : ProgramTree) (pairs : List Pair) (name : List ℕ) (i : ℕ) →
+    number_of name (row_of program) ≡ Some i →
     towers.inputs_of i (starts_of (row_of program) ++ numbered (row_of program) pairs) ≡ inputs_of program pairs name
 
 -- pairs that fit their reducers fit the row's towers
 abbrev pub FittingPairsFitRow : Type 0
-FittingPairsFitRow = (program : ProgramTree) (pairs : List Pair) → list_all (fits_reducer program) pairs ≡ true → pairs_fit (row_of program) pairs ≡ true
+FittingPairsFitRow = (program : ProgramTree) (pairs : List Pair) →
+    list_all (fits_reducer program) pairs ≡ true → pairs_fit (row_of program) pairs ≡ true

@@ -1,10 +1,13 @@
 -- How the plain loop ended, as the fold of its run into a row says it.
 -- Source: this project.
 use Rattle.std.specs.Prelude.{◌≡◌, ℕ, List, ◌++◌}
+use Rattle.column_input.specs.Table.{Contents}
 use Rattle.loop_data.specs.declared.value.Value.{Value}
 use Rattle.loop_grammar.specs.declared.tree.ProgramTree.{ProgramTree}
-use Rattle.loop_meaning.specs.declared.runs.Run.{Run}
+use Rattle.loop_meaning.specs.declared.runs.PlainStop.{PlainStop}
 use Rattle.loop_meaning.specs.declared.runs.PlainStop.TheVariants as stop
+use Rattle.loop_meaning.specs.declared.runs.Run.{Run}
+use Rattle.loop_meaning.specs.Items.{items_of}
 use Rattle.loop_meaning.specs.Runs.{loop_run}
 use Rattle.loop_meaning.specs.Stores.{start_store}
 use Rattle.reducer_tower.specs.declared.named.Named.{Named}
@@ -14,13 +17,22 @@ use Rattle.plain_path.specs.declared.fold.PathEnd.{PathEnd}
 use Rattle.plain_path.specs.declared.fold.PathEnd.TheVariants as path
 use Rattle.plain_path.specs.Rows.{numbered}
 
+-- these are the items of the program's first head over some table
+pub record AreHeadItems (program : ProgramTree) (items : List Value) : Type 0 where
+  pub table : Contents
+  pub are : items ≡ items_of program table
+
 -- the plain loop over these items, from the store in which it begins and place 1
 abbrev pub run_over : ProgramTree → List Value → Run
 run_over program items = loop_run program (start_store program) items 1
 
+-- the run didn't end in a fault
+abbrev pub HasNoFault : PlainStop → Type 0
+HasNoFault how = (at line kind : ℕ) → how ≡ stop.Fault at line kind → ⊥
+
 -- The run didn't end in a fault; the states stand for the start values followed by what counts of what it emitted.
 pub record IsDone (row : List Named) (run : Run) (state : RowState) (skipped : ℕ) : Type 0 where
-  pub no_fault : (at line kind : ℕ) → run.stop ≡ stop.Fault at line kind → ⊥
+  pub no_fault : HasNoFault run.stop
   pub skips : skipped ≡ run.skipped
   pub stands : RowStands row state.states.items (starts_of row ++ numbered row run.emitted)
 

@@ -1,14 +1,20 @@
 //! The plain loop folded into a row.
 
-ghost use Rattle.std.specs.Prelude.{◌≡◌, ◌++◌, List, true, IfOk, OnOk};
-ghost use Rattle.legality_rules.specs.Offences.{IsLegal};
-ghost use Rattle.reducer_tower.specs.declared.row.Emitted.{Emitted as RowInput};
-ghost use Rattle.reducer_tower.specs.Rows.{RowStands, number_of};
+ghost use Rattle.std.specs.Prelude.{◌≡◌, ◌+◌, ◌<◌, ◌≤◌, ◌^◌, [], true, IfOk, OnOk, length};
+ghost use Rattle.loop_grammar.specs.SkippedFaults.{skips_faults};
+ghost use Rattle.loop_meaning.specs.declared.runs.Run.{Run};
+ghost use Rattle.loop_meaning.specs.Chosen.{is_skipped, stop_at};
+ghost use Rattle.loop_meaning.specs.Runs.{no_run};
+ghost use Rattle.loop_meaning.specs.Stores.{start_store};
+ghost use Rattle.reducer_tower.specs.Rows.{number_of};
+ghost use Rattle.splittable.specs.Ranges.{most_items};
 ghost use Rattle.plain_path.specs.Rows.{row_of, pairs_fit, fits_number, input_for, numbered};
-ghost use Rattle.plain_path.specs.Paths.{IsEnd, run_over};
+ghost use Rattle.plain_path.specs.Paths.{AreHeadItems, HasNoFault, IsEnd, run_over};
+ghost use Rattle.plain_path.specs.Walked.{HaveRoom, StandsFor, TakeBehind, item_run};
 
-use loop_data::Many;
-use loop_items::HeadItems;
+use legality_check::LegalProgram;
+use loop_data::{Many, Value};
+use loop_items::{HeadItems, Walk};
 use loop_meaning::{BodyEnd, Emitted, start_store, step_plain};
 use loop_syntax::Program;
 use loop_values::Env;
@@ -32,14 +38,16 @@ struct Walked {
     store: Env,
     state: RowState,
     skipped: u64,
+    /// Where an item's pairs are put; empty between items, so that they share its memory.
+    emitted: Many<Emitted>,
 }
 
 /// The states with one more pair, for the reducer of its name.
 fn add_pair(alloc: Global, row: &Row, state: &mut RowState, pair: Emitted) -> Result<(), NoMemory>
-    requires { fits_number row.now.towers.items (number_of pair.name row.now.towers.items) pair.input ≡ true }
-    ensures { OnOk result ((inputs : List RowInput) → RowStands row.now.towers.items state.old.states.items inputs →
-        RowStands row.now.towers.items state.new.states.items
-        (inputs ++ input_for (number_of pair.name row.now.towers.items) pair.input)) }
+    requires fits { fits_number row.now.towers.items (number_of pair.name row.now.towers.items) pair.input ≡ true }
+    requires room { HaveRoom row.now.towers.items state.old 1 }
+    ensures { OnOk result (TakeBehind row.now.towers.items state.old state.new
+        (input_for (number_of pair.name row.now.towers.items) pair.input)) }
 {
     let Emitted { name, input } = pair;
     match row.tower(name.as_str()) {
@@ -55,79 +63,159 @@ fn add_pair(alloc: Global, row: &Row, state: &mut RowState, pair: Emitted) -> Re
     }
 }
 
-/// The states with these pairs, each for the reducer of its name.
+/// The states with these pairs, each for the reducer of its name. The list is emptied, and keeps its memory.
 fn add_pairs(
     alloc: Global,
     row: &Row,
     state: &mut RowState,
-    pairs: Many<Emitted>,
+    pairs: &mut Many<Emitted>,
 ) -> Result<(), NoMemory>
-    requires { pairs_fit row.now.towers.items pairs ≡ true }
-    ensures { OnOk result ((inputs : List RowInput) → RowStands row.now.towers.items state.old.states.items inputs →
-        RowStands row.now.towers.items state.new.states.items (inputs ++ numbered row.now.towers.items pairs)) }
+    requires fit { pairs_fit row.now.towers.items pairs.old ≡ true }
+    requires room { HaveRoom row.now.towers.items state.old (length pairs.old) }
+    ensures states { OnOk result (TakeBehind row.now.towers.items state.old state.new
+        (numbered row.now.towers.items pairs.old)) }
+    ensures emptied { OnOk result (pairs.new ≡ []) }
 {
-    for pair in pairs.into_vec() {
+    let mut list = std::mem::replace(pairs, Many::new(alloc)).into_vec();
+    for pair in list.drain(..) {
         add_pair(alloc, row, state, pair)?;
     }
+    *pairs = Many::from_vec(list);
     Ok(())
 }
 
-/// How the step of the item at this place ended; what counts of what it emitted is in the states.
-fn step_at(
-    alloc: Global,
-    program: &Program,
-    head: &HeadItems<'_>,
-    row: &Row,
-    place: u64,
-    walked: &mut Walked,
-) -> Result<BodyEnd, NoMemory> {
-    let item = head.item(alloc, place)?;
-    let mut emitted = Many::new(alloc);
-    let end = step_plain(alloc, program, &mut walked.store, item, place, &mut emitted)?;
-    if program.skips_faults() && matches!(end, BodyEnd::Fault { .. }) {
-        walked.skipped += 1;
-        return Ok(BodyEnd::Next);
-    }
-    add_pairs(alloc, row, &mut walked.state, emitted)?;
-    Ok(end)
-}
-
-/// The run's end, with the start values in its states.
-fn done(alloc: Global, row: &Row, walked: Walked) -> Result<PathEnd, NoMemory> {
-    let Walked {
-        store: _,
-        state,
-        skipped,
-    } = walked;
-    let state = row.with_starts(alloc, state)?;
-    Ok(PathEnd::Done { state, skipped })
-}
-
-/// The plain loop of a program over the items of its head, from place 1, folded into the row of its reducers.
-pub fn fold_plain(
-    alloc: Global,
-    program: &Program,
-    head: &HeadItems<'_>,
-    row: &Row,
-) -> Result<PathEnd, NoMemory>
-    requires legal { IsLegal program.now }
-    requires row { row.now.towers.items ≡ row_of program.now }
-    // What a legal loop emits fits its towers: to be a law of legal programs over items that fit their head.
-    requires fit { pairs_fit row.now.towers.items (run_over program.now head.now.items).emitted ≡ true }
-    ensures { IfOk result (IsEnd row.now.towers.items (run_over program.now head.now.items)) }
+/// Gives up these pairs. The list keeps its memory.
+fn drop_pairs(alloc: Global, pairs: &mut Many<Emitted>)
+    ensures { pairs.new ≡ [] }
 {
-    let mut walked = Walked {
+    let mut list = std::mem::replace(pairs, Many::new(alloc)).into_vec();
+    list.clear();
+    *pairs = Many::from_vec(list);
+}
+
+/// Whether the program skips the fault in which a step ended, if it ended so.
+fn is_skipped(program: &Program, end: BodyEnd) -> bool
+    ensures { result ≡ is_skipped (skips_faults program.now) end }
+{
+    program.skips_faults() && matches!(end, BodyEnd::Fault { .. })
+}
+
+/// The run before its first item.
+fn begin(alloc: Global, program: &Program, row: &Row) -> Result<Walked, NoMemory>
+    ensures { IfOk result (StandsFor row.now.towers.items (no_run (start_store program.now))) }
+{
+    Ok(Walked {
         store: start_store(alloc, program)?,
         state: row.unit(alloc)?,
         skipped: 0,
-    };
-    for before in 0..head.count() {
+        emitted: Many::new(alloc),
+    })
+}
+
+/// One item more, at this place: what counts of what its step emits goes into the states. A step whose fault is skipped ends as one
+/// after which the next follows.
+fn walk_item(
+    alloc: Global,
+    program: &Program,
+    row: &Row,
+    item: Value,
+    place: u64,
+    walked: &mut Walked,
+) -> Result<BodyEnd, NoMemory>
+    requires place { place < 2 ^ 63 }
+    requires skipped { walked.old.skipped < place }
+    requires emptied { walked.old.emitted ≡ [] }
+    requires fit { pairs_fit row.now.towers.items (item_run program.now walked.old.store item place).emitted ≡ true }
+    requires room { HaveRoom row.now.towers.items walked.old.state
+        (length (item_run program.now walked.old.store item place).emitted) }
+    ensures end { IfOk result (λ end. stop_at end place ≡ (item_run program.now walked.old.store item place).stop) }
+    ensures store { OnOk result (walked.new.store ≡ (item_run program.now walked.old.store item place).store) }
+    ensures skipped { OnOk result (walked.new.skipped
+        ≡ walked.old.skipped + (item_run program.now walked.old.store item place).skipped) }
+    ensures states { OnOk result (TakeBehind row.now.towers.items walked.old.state walked.new.state
+        (numbered row.now.towers.items (item_run program.now walked.old.store item place).emitted)) }
+    ensures emptied { OnOk result (walked.new.emitted ≡ []) }
+{
+    let end = step_plain(
+        alloc,
+        program,
+        &mut walked.store,
+        item,
+        place,
+        &mut walked.emitted,
+    )?;
+    if is_skipped(program, end) {
+        drop_pairs(alloc, &mut walked.emitted);
+        walked.skipped += 1;
+        return Ok(BodyEnd::Next);
+    }
+    add_pairs(alloc, row, &mut walked.state, &mut walked.emitted)?;
+    Ok(end)
+}
+
+/// The end of a run that didn't fault: the start values are put into its states.
+fn done(alloc: Global, row: &Row, walked: Walked) -> Result<PathEnd, NoMemory>
+    requires room { HaveRoom row.now.towers.items walked.state 0 }
+    ensures { IfOk result (λ end. (run : Run) → StandsFor row.now.towers.items run walked → HasNoFault run.stop →
+        IsEnd row.now.towers.items run end) }
+{
+    let state = row.with_starts(alloc, walked.state)?;
+    Ok(PathEnd::Done {
+        state,
+        skipped: walked.skipped,
+    })
+}
+
+/// The run over the items of a walk, of which there are so many, from its begin.
+fn fold_items(
+    alloc: Global,
+    program: &Program,
+    row: &Row,
+    walk: &mut Walk<'_, '_>,
+    count: u64,
+    begun: Walked,
+) -> Result<PathEnd, NoMemory>
+    requires count { length walk.old ≡ count }
+    requires most { count ≤ most_items }
+    requires begun { StandsFor row.now.towers.items (no_run (start_store program.now)) begun }
+    requires fit { pairs_fit row.now.towers.items (run_over program.now walk.old).emitted ≡ true }
+    requires few { length (run_over program.now walk.old).emitted ≤ 2 ^ 61 }
+    ensures { IfOk result (IsEnd row.now.towers.items (run_over program.now walk.old)) }
+{
+    let mut walked = begun;
+    for before in 0..count {
+        let Some(item) = walk.next(alloc)? else {
+            return done(alloc, row, walked);
+        };
         let at = before + 1;
-        match step_at(alloc, program, head, row, at, &mut walked)? {
+        match walk_item(alloc, program, row, item, at, &mut walked)? {
             BodyEnd::Next => {}
             BodyEnd::Break { line: _ } => return done(alloc, row, walked),
             BodyEnd::Fault { line, kind } => return Ok(PathEnd::Faulted { at, line, kind }),
         }
     }
     done(alloc, row, walked)
+}
+
+/// The plain loop of a legal program over the items of its head, from place 1, folded into the row of its reducers.
+pub fn fold_plain(
+    alloc: Global,
+    legal: &LegalProgram,
+    head: &HeadItems<'_>,
+    row: &Row,
+) -> Result<PathEnd, NoMemory>
+    requires row { row.now.towers.items ≡ row_of legal.now }
+    requires head { AreHeadItems legal.now head.now.items }
+    ensures { IfOk result (IsEnd row.now.towers.items (run_over legal.now head.now.items)) }
+{
+    let program = legal.program();
+    let count = head.count();
+    let begun = begin(alloc, program, row)?;
+    match head.shape().whole() {
+        Some(whole) => {
+            let mut walk = head.walk(&whole);
+            fold_items(alloc, program, row, &mut walk, count, begun)
+        }
+        None => done(alloc, row, begun),
+    }
 }

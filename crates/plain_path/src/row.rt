@@ -7,6 +7,7 @@ ghost use Rattle.tower_inputs.specs.Towers.{kind_of_tower};
 ghost use Rattle.fitting_inputs.specs.ReduceLines.{all_lines, lines_in, lines_in_branch, reduce_lines};
 ghost use Rattle.plain_path.specs.Rows.{named_line, with_line, with_lines, row_of};
 
+use fitting_inputs::laws::legal_reducers_have_one_tower;
 use legality_check::LegalProgram;
 use loop_data::{Branch, Statement, TextValue, TowerExpr, Value};
 use loop_grammar::ProgramTree;
@@ -136,6 +137,8 @@ fn with_lines(alloc: Global, lines: Vec<Named>) -> Result<Row, NoMemory>
 pub fn row_of(alloc: Global, legal: &LegalProgram) -> Result<Row, NoMemory>
     ensures { IfOk result (λ row. row.towers.items ≡ row_of legal.now) }
 {
+    // A legal program's start values fit, and its lines are few.
+    legal_reducers_have_one_tower();
     let lines = lines_of(alloc, legal.program().tree())?;
     with_lines(alloc, lines)
 }
