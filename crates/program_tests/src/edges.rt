@@ -52,6 +52,40 @@ fn reads_that_fail(rt: HostRuntime) -> Result<(), Fail> {
     check_edges(&rt, rt.alloc(), &words, TWO_FILES, &READS)
 }
 
+// A file is read only where nothing before it is refused: the read that fails isn't made.
+static NOT_MADE: [Edge; 2] = [
+    (2, 0, 0, b"line 2: unknown name z\n", Status::Refused),
+    (1, 0, 0, b"", Status::ReadFault),
+];
+
+static NOT_READ: [Edge; 2] = [
+    (3, 0, 0, b"data file 1: no header\n", Status::Refused),
+    (2, 0, 0, b"", Status::ReadFault),
+];
+
+// A file that is named twice is read twice.
+static TWICE: [Edge; 2] = [
+    (0, 0, 0, b"[1, 2, 1, 2]\n", Status::Done),
+    (3, 0, 0, b"", Status::ReadFault),
+];
+
+#[test]
+fn reads_that_are_made(rt: HostRuntime) -> Result<(), Fail> {
+    let alloc = rt.alloc();
+    let one = ["run", "loop=loop", "data=1"];
+    let illegal = ("for x in 1:3\nlet y = z\nend\n", "v\n");
+    check_edges(&rt, alloc, &one, illegal, &NOT_MADE)?;
+    let two = ["run", "loop=loop", "data=1,2"];
+    let empty = ("for t in col(\"v\")\nend\n", "|v\n");
+    check_edges(&rt, alloc, &two, empty, &NOT_READ)?;
+    let twice = ["run", "loop=loop", "data=1,1"];
+    let list = (
+        "for t in col(\"v\")\n@reduce l = list(t)\nend\nprint l\n",
+        "v\n1\n2\n",
+    );
+    check_edges(&rt, alloc, &twice, list, &TWICE)
+}
+
 const FIVE_LINES: (&str, &str) = (
     "for x in 5:1\n@reduce s += x\n@reduce m = max(x)\n@reduce l = list(x)\n@reduce g = group(text(x), count())\n@reduce a = all(x > 0)\nend\nprint s\nprint m\nprint l\nprint g\nprint a\n",
     "",
