@@ -5,6 +5,8 @@
 #[cfg(test)]
 mod edges;
 #[cfg(test)]
+mod limits;
+#[cfg(test)]
 mod refusals;
 pub mod run;
 #[cfg(test)]
