@@ -1,5 +1,5 @@
 -- From what a read of the loop file gives to the answer.
-use Rattle.std.proofs.Common.{◌≡◌, ◌≢◌, ℕ, Bool, true, false, List, [], Option, Some, None, Result, Ok, Err, length, refl, sym, subst, ◌∙◌}
+use Rattle.std.proofs.Common.{◌≡◌, ◌≢◌, ℕ, Bool, true, false, List, [], Option, Some, None, Result, Ok, Err, length, refl, sym, ap, subst, ◌∙◌}
 use Rattle.std.specs.Prelude.{IfOk, IfSome, IsOk, codes, nat_le, if◌then◌else◌}
 use Rattle.std.specs.FinMap.{get}
 use Rattle.std.proofs.lemmas.Bool.{leb-true, leb-false}
@@ -8,7 +8,6 @@ use Rattle.edge_io.specs.declared.files.ReadStop.TheVariants as stop
 use Rattle.edge_io.specs.Reading.{Held, read_answer, Reads}
 use Rattle.floop_run.specs.declared.answer.Output.{Output}
 use Rattle.floop_run.specs.declared.answer.OutputStop.{OutputStop}
-use Rattle.floop_run.specs.declared.answer.OutputStop.TheVariants as why
 use Rattle.program_words.specs.Requests.{Request}
 use Rattle.floop_run.specs.Requests.{request_in, loop_file}
 use Rattle.floop_run.specs.Outputs.{answer_in}
@@ -22,6 +21,10 @@ every (Some a) P f = f a
 pub every_of : {A : Type 0} (o : Option A) (P Q : A → Type 0) → ((a : A) → P a → Q a) → IfSome o P → IfSome o Q
 every_of None P Q f h = tt
 every_of (Some a) P Q f h = f a h
+
+pub both_some : {A : Type 0} (o : Option A) (P Q R : A → Type 0) → ((a : A) → P a → Q a → R a) → IfSome o P → IfSome o Q → IfSome o R
+both_some None P Q R f p q = tt
+both_some (Some a) P Q R f p q = f a p q
 
 -- the read's answer, told whether the bytes fit
 by_fit : {T : Type 0} (r : Result T ReadStop) (before now bytes : List ℕ) (b : Bool) → nat_le (length bytes) loop_file_limit ≡ b → Reads (read_answer (Some bytes) loop_file_limit) r before now →
@@ -69,6 +72,56 @@ pub missing_read : {T : Type 0} (r : Result T ReadStop) (file : Option (List ℕ
 missing_read r None before now e h = refl
 missing_read r (Some bytes) before now e h = absurd (missing_fit r before now bytes (nat_le (length bytes) loop_file_limit) e h)
 
+pub long_not_failed : {T : Type 0} (r : Result T ReadStop) → r ≡ Err stop.TooLong → r ≢ Err stop.Failed
+long_not_failed r e f = absurd (cc)
+
+pub long_not_memory : {T : Type 0} (r : Result T ReadStop) → r ≡ Err stop.TooLong → r ≢ Err stop.NoMemory
+long_not_memory r e f = absurd (cc)
+
+missing_not_failed : {T : Type 0} (r : Result T ReadStop) → r ≡ Err stop.NotHeld → r ≢ Err stop.Failed
+missing_not_failed r e f = absurd (cc)
+
+missing_not_memory : {T : Type 0} (r : Result T ReadStop) → r ≡ Err stop.NotHeld → r ≢ Err stop.NoMemory
+missing_not_memory r e f = absurd (cc)
+
+-- ---- what the read's clause gives, where files tell
+
+-- what was read of a name, where neither a failure nor want of memory came
+abbrev pub ReadsNamed : {T : Type 0} → Result T ReadStop → List ℕ → List ℕ → List ℕ → Held → Type 0
+ReadsNamed r name before now held = r ≢ Err stop.Failed → r ≢ Err stop.NoMemory → Reads (read_answer (get held name) loop_file_limit) r before now
+
+ok_named : {T : Type 0} (q : Request) (held : Held) (r : Result T ReadStop) (t : T) (name file before now text : List ℕ) → r ≡ Ok t → name ≡ file → before ≡ [] → text ≡ now → ReadsNamed r name before now held →
+    (answer : Answer) → IsTextAnswer q held text answer → IsFileAnswer q held (get held file) answer
+ok_named q held r t name file before now text e n b is reads answer x =
+    let none : Reads (read_answer (get held name) loop_file_limit) r [] now =
+    subst (λ bs. Reads (read_answer (get held name) loop_file_limit) r bs now) b (reads (ok_err r t stop.Failed e) (ok_err r t stop.NoMemory e)) in
+    subst (λ f. IsFileAnswer q held (get held f) answer) n (ok_read q held r t (get held name) now answer e none (subst (λ bs. IsTextAnswer q held bs answer) is x))
+
+-- the bytes of the file were read: the answer for them is that for the file
+pub ok_file : {T : Type 0} (q : Request) (held : Option Held) (r : Result T ReadStop) (t : T) (name file before now text : List ℕ) → r ≡ Ok t → name ≡ file → before ≡ [] → text ≡ now →
+    IfSome held (ReadsNamed r name before now) → IfSome held (λ h. (answer : Answer) → IsTextAnswer q h text answer → IsFileAnswer q h (get h file) answer)
+ok_file q held r t name file before now text e n b is reads = every_of held _ _ (λ h. ok_named q h r t name file before now text e n b is) reads
+
+-- the file is too long
+pub long_file : {T : Type 0} (q : Request) (held : Option Held) (r : Result T ReadStop) (name file before now : List ℕ) (answer : Answer) → r ≡ Err stop.TooLong → name ≡ file →
+    answer ≡ refused (codes "loop file: over 65536 bytes") → IfSome held (ReadsNamed r name before now) → IfSome held (λ h. IsFileAnswer q h (get h file) answer)
+long_file q held r name file before now answer e n is reads =
+    every_of held _ _
+    (λ h so. subst (λ f. IsFileAnswer q h (get h f) answer) n (long_read q h r (get h name) before now answer e (so (long_not_failed r e) (long_not_memory r e)) is))
+    reads
+
+missing_named : {T : Type 0} (q : Request) (held : Held) (r : Result T ReadStop) (name file before now : List ℕ) → r ≡ Err stop.NotHeld → name ≡ file → ReadsNamed r name before now held → IsFileAnswer q held (get held file) not_held
+missing_named q held r name file before now e n so =
+    let none : get held name ≡ None = missing_read r (get held name) before now e (so (missing_not_failed r e) (missing_not_memory r e)) in
+    subst (λ f. IsFileAnswer q held f not_held) (sym none ∙ ap (get held) n) missing
+
+-- the file isn't held, whatever else is given
+pub missing_file : {T : Type 0} (q : Request) (held : Option Held) (r : Result T ReadStop) (name file before now : List ℕ) (A B : Type 0) → r ≡ Err stop.NotHeld → name ≡ file →
+    IfSome held (ReadsNamed r name before now) → IfSome held (λ h. A → B → IsFileAnswer q h (get h file) not_held)
+missing_file q held r name file before now A B e n reads = every_of held _ _ (λ h so a b. missing_named q h r name file before now e n so) reads
+
+-- ---- words
+
 -- from the file's answer to the words'
 request_answer : (words : List (List ℕ)) (r : Result Request (List ℕ)) (held : Held) (answer : Answer) → request_in words ≡ r → IsRequestAnswer r held answer → IsAnswer words held answer
 request_answer words r held answer e a = subst (λ x. IsRequestAnswer x held answer) (sym e) a
@@ -88,9 +141,3 @@ asked_answers words q held r e h = every_of held _ _ (λ f. asked_ok words q f r
 pub asked_missing : (words : List (List ℕ)) (q : Request) (held : Option Held) (A B : Type 0) → request_in words ≡ Ok q →
     IfSome held (λ h. A → B → IsFileAnswer q h (get h (loop_file q)) not_held) → IfSome held (λ h. A → B → IsAnswer words h not_held)
 asked_missing words q held A B e h = every_of held _ _ (λ f missed a b. request_answer words (Ok q) f not_held e (asked (missed a b))) h
-
-pub long_not_failed : {T : Type 0} (r : Result T ReadStop) → r ≡ Err stop.TooLong → r ≢ Err stop.Failed
-long_not_failed r e f = absurd (cc)
-
-pub long_not_memory : {T : Type 0} (r : Result T ReadStop) → r ≡ Err stop.TooLong → r ≢ Err stop.NoMemory
-long_not_memory r e f = absurd (cc)

@@ -7,7 +7,7 @@ use Rattle.floop_run.specs.declared.status.Status.{Status}
 use Rattle.floop_run.specs.declared.status.Status.TheVariants as status
 use Rattle.floop_run.specs.Outputs.{answer_in}
 use Rattle.program_words.specs.Requests.{Request}
-use Rattle.floop_run.specs.Answers.{Answer, IsAnswer, refused, not_held}
+use Rattle.floop_run.specs.Answers.{IsAnswer, refused, not_held}
 use Rattle.floop_run.specs.TopCall.{Gives, GivesAnswer, PutsPrefixOf, IsAnswered}
 use Rattle.floop_run.proofs.AnswerLemmas.{only_not_held}
 use Rattle.floop_run.proofs.PutLemmas.{Puts-nothing}

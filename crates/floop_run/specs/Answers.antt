@@ -91,19 +91,24 @@ program_answer request held program = legal_answer (first_offence program) reque
 
 -- The answer for the text of a loop file, within the limit: its first refusal, or what its program gives.
 pub data IsTextAnswer : Request → Held → List ℕ → Answer → Type 0 where
-  refused_text : {request : Request} {held : Held} {text : List ℕ} {r : SyntaxRefusal} → FirstRefusal text r → IsTextAnswer request held text (refused (syntax_text r))
-  read : {request : Request} {held : Held} {text : List ℕ} {program : ProgramTree} → SpellsProgram text program → IsTextAnswer request held text (program_answer request held program)
+  refused_text : {request : Request} {held : Held} {text : List ℕ} {r : SyntaxRefusal} →
+      FirstRefusal text r → IsTextAnswer request held text (refused (syntax_text r))
+  read : {request : Request} {held : Held} {text : List ℕ} {program : ProgramTree} →
+      SpellsProgram text program → IsTextAnswer request held text (program_answer request held program)
 
 -- the answer for the bytes of the loop file, if it is held
 pub data IsFileAnswer : Request → Held → Option (List ℕ) → Answer → Type 0 where
   missing : {request : Request} {held : Held} → IsFileAnswer request held None not_held
-  too_long : {request : Request} {held : Held} {bytes : List ℕ} → loop_file_limit < length bytes → IsFileAnswer request held (Some bytes) (refused (codes "loop file: over 65536 bytes"))
-  within : {request : Request} {held : Held} {bytes : List ℕ} {answer : Answer} → length bytes ≤ loop_file_limit → IsTextAnswer request held bytes answer → IsFileAnswer request held (Some bytes) answer
+  too_long : {request : Request} {held : Held} {bytes : List ℕ} →
+      loop_file_limit < length bytes → IsFileAnswer request held (Some bytes) (refused (codes "loop file: over 65536 bytes"))
+  within : {request : Request} {held : Held} {bytes : List ℕ} {answer : Answer} →
+      length bytes ≤ loop_file_limit → IsTextAnswer request held bytes answer → IsFileAnswer request held (Some bytes) answer
 
 -- the answer for what the words are: the text of their first refusal, or what their request asks for
 pub data IsRequestAnswer : Result Request (List ℕ) → Held → Answer → Type 0 where
   no_request : {text : List ℕ} {held : Held} → IsRequestAnswer (Err text) held (refused text)
-  asked : {request : Request} {held : Held} {answer : Answer} → IsFileAnswer request held (get held (loop_file request)) answer → IsRequestAnswer (Ok request) held answer
+  asked : {request : Request} {held : Held} {answer : Answer} →
+      IsFileAnswer request held (get held (loop_file request)) answer → IsRequestAnswer (Ok request) held answer
 
 -- The answer of a call with these words over these files.
 abbrev pub IsAnswer : List (List ℕ) → Held → Answer → Type 0
@@ -111,7 +116,8 @@ IsAnswer words held answer = IsRequestAnswer (request_in words) held answer
 
 -- words over files have one answer at most
 abbrev pub OneAnswer : Type 0
-OneAnswer = (words : List (List ℕ)) (held : Held) (answer also : Answer) → IsAnswer words held answer → IsAnswer words held also → answer ≡ also
+OneAnswer = (words : List (List ℕ)) (held : Held) (answer also : Answer) →
+    IsAnswer words held answer → IsAnswer words held also → answer ≡ also
 
 -- no words over files are without an answer
 abbrev pub SomeAnswer : Type 0

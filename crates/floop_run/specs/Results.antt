@@ -1,16 +1,11 @@
 -- What a run comes to: a line for each `print` line, or its fault.
 -- Source: this project.
-use Rattle.std.specs.Prelude.{ℕ, Bool, true, false, ◌==◌, if◌then◌else◌, List, [], ◌∷◌, ◌++◌, map, flat_map, length, codes, Option, Some, None}
-use Rattle.std.specs.Str.{bytes_eq}
+use Rattle.std.specs.Prelude.{ℕ, Bool, true, false, ◌==◌, if◌then◌else◌, List, [], ◌∷◌, ◌++◌, flat_map, length, codes, Option, Some, None}
 use Rattle.std.specs.Fmt.{decimal}
 use Rattle.loop_data.specs.declared.value.Value.{Value}
 use Rattle.loop_data.specs.declared.tower.Kind.{Kind}
 use Rattle.loop_data.specs.declared.head.PrintLine.{PrintLine}
-use Rattle.loop_data.specs.declared.statement.Statement.{Statement}
-use Rattle.loop_data.specs.declared.statement.Statement.TheOpen.{Statement-F, Statement-F as s, Branch-F}
-use Rattle.loop_data.specs.declared.statement.Statement.TheFolds.{fold-Statement}
 use Rattle.loop_results.specs.ResultTexts.{result_text}
-use Rattle.tower_inputs.specs.Towers.{kind_of_tower}
 use Rattle.loop_grammar.specs.declared.tree.ProgramTree.{ProgramTree}
 use Rattle.loop_grammar.specs.SkippedFaults.{skips_faults}
 use Rattle.loop_meaning.specs.declared.steps.Emitted.{Emitted}
@@ -18,42 +13,11 @@ use Rattle.loop_meaning.specs.declared.runs.Run.{Run}
 use Rattle.loop_meaning.specs.Stores.{start_store}
 use Rattle.loop_meaning.specs.Runs.{loop_run}
 use Rattle.loop_meaning.specs.Reducers.{inputs_of, reducers_of}
+use Rattle.fitting_inputs.specs.ReduceLines.{reducer_kind}
 
 -- a line with its LF
 abbrev pub line : List ℕ → List ℕ
 line text = text ++ 10 ∷ []
-
--- ---- the kinds of reducers
-
--- an `@reduce` line: the reducer's name and the kind of its tower
-pub record Reducer : Type 0 where
-  pub name : List ℕ
-  pub kind : Kind
-
-abbrev pub all_reducers : List (List Reducer) → List Reducer
-all_reducers [] = []
-all_reducers (rs ∷ more) = rs ++ all_reducers more
-
-abbrev pub branch_reducers : Branch-F (List Reducer) (List Reducer) → List Reducer
-branch_reducers b = all_reducers b.block
-
--- one layer of a statement, given the `@reduce` lines of its parts
-abbrev pub reducers_step : Statement-F (List Reducer) (List Reducer) → List Reducer
-reducers_step (s.If line branches else_line other end_line) = all_reducers branches ++ all_reducers other
-reducers_step (s.Reduce line name tower start) = record { name = name; kind = kind_of_tower tower } ∷ []
-reducers_step _ = []
-
--- the `@reduce` lines of a program, by rising lines
-abbrev pub reduce_lines : ProgramTree → List Reducer
-reduce_lines program = all_reducers (map (fold-Statement (List Reducer) (List Reducer) reducers_step branch_reducers) program.body)
-
-abbrev pub kind_among : List Reducer → List ℕ → Option Kind
-kind_among [] name = None
-kind_among (r ∷ rs) name = if bytes_eq r.name name then Some r.kind else kind_among rs name
-
--- the kind of a reducer, by the first line of its name
-abbrev pub reducer_kind : ProgramTree → List ℕ → Option Kind
-reducer_kind program = kind_among (reduce_lines program)
 
 -- ---- results
 
@@ -88,7 +52,8 @@ fault_text kind =
 
 -- the line of the fault that stopped the run: its item's place, its line and what it is called
 abbrev pub fault_line : ℕ → ℕ → ℕ → List ℕ
-fault_line at in_line kind = line (codes "fault: item " ++ decimal at ++ codes ", line " ++ decimal in_line ++ codes ": " ++ fault_text kind)
+fault_line at in_line kind =
+    line (codes "fault: item " ++ decimal at ++ codes ", line " ++ decimal in_line ++ codes ": " ++ fault_text kind)
 
 -- ---- the whole
 

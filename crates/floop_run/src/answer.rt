@@ -4,10 +4,10 @@ ghost use Rattle.std.specs.Prelude.{◌≡◌, ◌≢◌, ◌≤◌, Err, IfOk, 
 ghost use Rattle.std.specs.FinMap.{get};
 ghost use Rattle.edge_io.specs.Faults.{Rose};
 ghost use Rattle.program_words.specs.Words.{texts};
-ghost use Rattle.program_words.specs.Refusals.{refusal_text};
 ghost use Rattle.program_words.specs.Views.{request_seen};
 ghost use Rattle.data_files.specs.Tables.{data_table};
 ghost use Rattle.loop_items.specs.Refusals.{first_head_refusal};
+ghost use Rattle.plain_path.specs.Paths.{AreHeadItems};
 ghost use Rattle.floop_run.specs.Requests.{request_in, loop_file, data_names};
 ghost use Rattle.floop_run.specs.Answers.{IsAnswer, IsFileAnswer, IsTextAnswer, program_answer, table_answer, head_answer, command_answer, not_held, loop_file_limit, refused};
 ghost use Rattle.floop_run.specs.TopCall.{IsAnswered};
@@ -15,7 +15,7 @@ ghost use Rattle.floop_run.specs.Outputs.{answer_in};
 
 use crate::Status;
 use crate::accepted::accepted_output;
-use crate::data::data_names;
+use crate::names::{data_names, loop_file};
 use crate::results::run_output;
 use column_input::Table;
 use data_files::{DataStop, read_data};
@@ -23,8 +23,9 @@ use edge_io::{Files, NoMemory, ReadStop};
 use legality_check::{LegalProgram, LegalRefusal, check_program};
 use loop_items::{HeadItems, HeadRefusal};
 use loop_syntax::{Program, SyntaxRefusal, read_program};
-use program_words::{Call, Command, Refusal, Request, Setting, request_of};
+use program_words::{Call, Command, Request, request_of};
 use std::alloc::{AllocError, Global};
+use std::fmt::Display;
 
 /// The most bytes of a loop file.
 const LOOP_FILE_LIMIT: u64 = 65536;
@@ -88,17 +89,8 @@ pub fn output_for<F: Files>(
 {
     match request_of(Call::Direct, words) {
         Ok(request) => loop_output(alloc, &request, files),
-        Err(why) => Ok(words_output(alloc, why)?),
+        Err(why) => Ok(refusal_of(alloc, &why)?),
     }
-}
-
-/// The output for words that are no request.
-fn words_output(alloc: Global, why: Refusal<'_>) -> Result<Output, NoMemory>
-    ensures answer { IfOk result (λ o. answer_in o ≡ refused (refusal_text why.entry)) }
-    ensures answered { IfOk result (λ o. IsAnswered o.status) }
-{
-    let text = format!(in alloc; "{why}")?;
-    refusal(alloc, text.as_str())
 }
 
 /// The output for a request, by its loop file.
@@ -116,7 +108,7 @@ fn loop_output<F: Files>(
     ensures held { F.held files.new ≡ F.held files.old }
     ensures kept { result ≢ Err OutputStop.ReadFault → F.faults files.new ≡ F.faults files.old }
 {
-    let name = request.value(Setting::Loop).unwrap_or("");
+    let name = loop_file(request);
     let mut bytes = Vec::new(alloc);
     match files.read_named(alloc, name, LOOP_FILE_LIMIT, &mut bytes) {
         Ok(()) => text_output(alloc, request, &bytes, files),
@@ -127,8 +119,17 @@ fn loop_output<F: Files>(
     }
 }
 
+/// The refusal of what has a text.
+fn refusal_of<W: Display>(alloc: Global, why: &W) -> Result<Output, NoMemory>
+    ensures answer { IfSome (W.output why.now) (λ text. IfOk result (λ o. answer_in o ≡ refused text)) }
+    ensures answered { IfOk result (λ o. IsAnswered o.status) }
+{
+    let text = format!(in alloc; "{why}")?;
+    refusal(alloc, text.as_str())
+}
+
 /// A refusal is one line.
-pub(crate) fn refusal(alloc: Global, text: &str) -> Result<Output, NoMemory>
+fn refusal(alloc: Global, text: &str) -> Result<Output, NoMemory>
     ensures answer { IfOk result (λ o. answer_in o ≡ refused text.now) }
     ensures answered { IfOk result (λ o. IsAnswered o.status) }
 {
@@ -164,10 +165,7 @@ fn text_output<F: Files>(
     match read_program(alloc, bytes) {
         Ok(program) => program_output(alloc, request, program, files),
         Err(SyntaxRefusal::NoMemory) => Err(OutputStop::NoMemory),
-        Err(why) => {
-            let text = format!(in alloc; "{why}")?;
-            Ok(refusal(alloc, text.as_str())?)
-        }
+        Err(why) => Ok(refusal_of(alloc, &why)?),
     }
 }
 
@@ -179,7 +177,7 @@ fn program_output<F: Files>(
     files: &mut F,
 ) -> Result<Output, OutputStop>
     ensures output { IfSome (F.held files.old) (λ held.
-        IfOk result (λ o. (answer_in o) ≡ program_answer (request_seen request.now) held program)) }
+        IfOk result (λ o. answer_in o ≡ program_answer (request_seen request.now) held program)) }
     ensures answered { IfOk result (λ o. IsAnswered o.status) }
     ensures read_fault { IfSome (F.held files.old) (λ held.
         (Rose (F.faults files.old) (F.faults files.new) → ⊥) → result ≡ Err OutputStop.ReadFault →
@@ -190,10 +188,7 @@ fn program_output<F: Files>(
     match check_program(alloc, program) {
         Ok(legal) => legal_output(alloc, request, &legal, files),
         Err(LegalRefusal::NoMemory) => Err(OutputStop::NoMemory),
-        Err(LegalRefusal::Illegal(offence)) => {
-            let text = format!(in alloc; "{offence}")?;
-            Ok(refusal(alloc, text.as_str())?)
-        }
+        Err(LegalRefusal::Illegal(offence)) => Ok(refusal_of(alloc, &offence)?),
     }
 }
 
@@ -205,7 +200,8 @@ fn legal_output<F: Files>(
     files: &mut F,
 ) -> Result<Output, OutputStop>
     ensures output { IfSome (F.held files.old) (λ held.
-        IfOk result (λ o. (answer_in o) ≡ table_answer (data_table (data_names (request_seen request.now)) held) request.now.command legal.now)) }
+        IfOk result (λ o. answer_in o
+        ≡ table_answer (data_table (data_names (request_seen request.now)) held) request.now.command legal.now)) }
     ensures answered { IfOk result (λ o. IsAnswered o.status) }
     ensures read_fault { IfSome (F.held files.old) (λ held.
         (Rose (F.faults files.old) (F.faults files.new) → ⊥) → result ≡ Err OutputStop.ReadFault →
@@ -219,10 +215,7 @@ fn legal_output<F: Files>(
         Err(DataStop::NoMemory) => Err(OutputStop::NoMemory),
         Err(DataStop::NotHeld) => Err(OutputStop::ReadFault),
         Err(DataStop::Failed) => Err(OutputStop::ReadFault),
-        Err(DataStop::Refused(why)) => {
-            let text = format!(in alloc; "{why}")?;
-            Ok(refusal(alloc, text.as_str())?)
-        }
+        Err(DataStop::Refused(why)) => Ok(refusal_of(alloc, &why)?),
     }
 }
 
@@ -239,10 +232,7 @@ fn table_output(
     match HeadItems::open(alloc, legal.program(), table) {
         Ok(head) => command_output(alloc, command, legal, &head),
         Err(HeadRefusal::NoMemory) => Err(NoMemory),
-        Err(why) => {
-            let text = format!(in alloc; "{why}")?;
-            refusal(alloc, text.as_str())
-        }
+        Err(why) => refusal_of(alloc, &why),
     }
 }
 
@@ -253,6 +243,7 @@ fn command_output(
     legal: &LegalProgram,
     head: &HeadItems<'_>,
 ) -> Result<Output, NoMemory>
+    requires { AreHeadItems legal.now head.now.items }
     ensures answer { IfOk result (λ o. answer_in o ≡ command_answer command legal.now head.now.items) }
     ensures answered { IfOk result (λ o. IsAnswered o.status) }
 {

@@ -7,8 +7,8 @@
 
 mod accepted;
 mod answer;
-mod data;
 mod laws;
+mod names;
 mod output;
 mod results;
 mod status;

@@ -1,10 +1,13 @@
 //! What `run` writes: the results, or the fault.
 
-ghost use Rattle.std.specs.Prelude.{◌≡◌, ◌<◌, ◌≤◌, IfOk, flat_map, string_bytes};
+ghost use Rattle.std.specs.Prelude.{◌≡◌, ◌++◌, List, IfOk, OnOk, flat_map, string_bytes};
+ghost use Rattle.loop_grammar.specs.declared.tree.ProgramTree.{ProgramTree};
+ghost use Rattle.loop_grammar.specs.SkippedFaults.{skips_faults};
 ghost use Rattle.loop_meaning.specs.declared.runs.Run.{Run};
-ghost use Rattle.plain_path.specs.Paths.{IsDone, run_over};
-ghost use Rattle.plain_path.specs.Rows.{row_of as row_in};
-ghost use Rattle.floop_run.specs.Results.{fault_text, fault_line, result_line, results_text, whole_run};
+ghost use Rattle.loop_meaning.specs.declared.steps.Emitted.{Emitted};
+ghost use Rattle.plain_path.specs.Paths.{AreHeadItems};
+ghost use Rattle.floop_run.specs.Results.{fault_text, fault_line, result_line, results_text, skipped_line, whole_run};
+ghost use Rattle.floop_run.specs.Rows.{AreResults, StandForSome};
 ghost use Rattle.floop_run.specs.Answers.{done, run_answer};
 ghost use Rattle.floop_run.specs.TopCall.{IsAnswered, joined};
 ghost use Rattle.floop_run.specs.Outputs.{answer_in};
@@ -15,6 +18,7 @@ use edge_io::NoMemory;
 use legality_check::LegalProgram;
 use loop_data::PrintLine;
 use loop_items::HeadItems;
+use loop_syntax::Program;
 use plain_path::{PathEnd, fold_plain, row_of};
 use reducer_tower::{Row, RowState, RowStop};
 use std::alloc::{AllocError, Global};
@@ -46,7 +50,11 @@ fn result_line(
     row: &Row,
     state: &RowState,
     print: &PrintLine,
-) -> Result<Vec<u8>, NoMemory> {
+) -> Result<Vec<u8>, NoMemory>
+    requires { StandForSome row.now state.now }
+    ensures { IfOk result (λ line. (program : ProgramTree) (emitted : List Emitted) →
+        AreResults program row.now state.now emitted → line.items ≡ result_line program emitted print.now) }
+{
     match row.text(alloc, state, print.name.as_str()) {
         Ok(text) => {
             let mut line = text;
@@ -64,12 +72,33 @@ fn result_lines(
     row: &Row,
     state: &RowState,
     prints: &[PrintLine],
-) -> Result<Vec<Vec<u8>>, NoMemory> {
+) -> Result<Vec<Vec<u8>>, NoMemory>
+    requires { StandForSome row.now state.now }
+    ensures { IfOk result (λ lines. (program : ProgramTree) (emitted : List Emitted) →
+        AreResults program row.now state.now emitted → joined lines.items ≡ flat_map (result_line program emitted) prints.now) }
+{
     let mut lines = Vec::with_capacity(alloc, prints.len())?;
     for print in prints {
         lines.push(result_line(alloc, row, state, print)?)?;
     }
     Ok(lines)
+}
+
+/// One line more, in a program that skips faults: how many it skipped.
+fn add_skipped(
+    alloc: Global,
+    program: &Program,
+    skipped: u64,
+    lines: &mut Vec<Vec<u8>>,
+) -> Result<(), NoMemory>
+    ensures { OnOk result (joined lines.new.items ≡ joined lines.old.items ++ skipped_line (skips_faults program.now) skipped) }
+{
+    if !program.skips_faults() {
+        return Ok(());
+    }
+    let line = format!(in alloc; "faults: {skipped}\n")?;
+    lines.push(line.into_bytes())?;
+    Ok(())
 }
 
 /// The results, and in a program that skips faults how many it skipped.
@@ -79,13 +108,15 @@ fn done_output(
     row: &Row,
     state: &RowState,
     skipped: u64,
-) -> Result<Output, NoMemory> {
+) -> Result<Output, NoMemory>
+    requires { StandForSome row.now state.now }
+    ensures answer { IfOk result (λ o. (run : Run) → AreResults legal.now row.now state.now run.emitted → skipped ≡ run.skipped →
+        answer_in o ≡ done (results_text legal.now run)) }
+    ensures answered { IfOk result (λ o. IsAnswered o.status) }
+{
     let program = legal.program();
     let mut lines = result_lines(alloc, row, state, program.prints().as_slice())?;
-    if program.skips_faults() {
-        let line = format!(in alloc; "faults: {skipped}\n")?;
-        lines.push(line.into_bytes())?;
-    }
+    add_skipped(alloc, program, skipped, &mut lines)?;
     Ok(Output {
         status: Status::Done,
         lines,
@@ -98,6 +129,7 @@ pub(crate) fn run_output(
     legal: &LegalProgram,
     head: &HeadItems<'_>,
 ) -> Result<Output, NoMemory>
+    requires { AreHeadItems legal.now head.now.items }
     ensures answer { IfOk result (λ o. answer_in o ≡ run_answer legal.now (whole_run legal.now head.now.items)) }
     ensures answered { IfOk result (λ o. IsAnswered o.status) }
 {

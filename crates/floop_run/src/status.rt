@@ -7,11 +7,11 @@ use std::io::ErrorKind;
 /// How a call of the program ended. The number is the program's exit status.
 #[derive(Clone, Copy, Debug, PartialEq, Eq)]
 pub enum Status {
-    /// The loop ran to its end, and its results were written.
+    /// The loop ran to its end, and its results were written; or it was checked.
     Done = 0,
     /// The loop's leftmost stop is a fault, which was written.
     LoopFault = 1,
-    /// The words or the loop file are refused; the reason was written.
+    /// The words, the loop file, a data file or the head are refused; the reason was written.
     Refused = 2,
     /// A file isn't held or can't be read; nothing was written.
     ReadFault = 3,

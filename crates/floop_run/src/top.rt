@@ -14,15 +14,17 @@ use std::alloc::Global;
 
 /// Runs the program on its words.
 ///
-/// The words are a command and its settings, as `program_words` reads them. Served is `run` with `loop=NAME`, NAME being the name of
-/// a loop file of at most 65,536 bytes: the loop is run and its result written, or the reason why it is refused; each line by one
-/// put, with its LF. Another request is answered `form not built`.
+/// The words are a command and its settings, as `program_words` reads them: `run` or `check` with `loop=NAME`, the name of a loop file
+/// of at most 65,536 bytes, and maybe `data=NAMES`, the names of one to eight data files of at most 67,108,864 bytes each. `run` writes
+/// the result of each `print` line, and how many faults were skipped where the loop skips them, or the fault that stopped the loop;
+/// `check` writes how many items and reducers there are. Where something is refused, both write the first reason: of the words, the
+/// loop file, its legality, the data files, the head. Each line is one put, with its LF.
 ///
 /// The clauses tie the status and what was written to the answer, `IsAnswer` in specs/Answers, of which there is just one:
 ///
-/// - `Done` where the loop ran; `LoopFault` where its leftmost stop is a fault;
-/// - `Refused` where the words, or the loop file, are refused;
-/// - `ReadFault` where the loop file isn't held, or its read failed; nothing was written;
+/// - `Done` where the loop ran, or was checked; `LoopFault` where its leftmost stop is a fault;
+/// - `Refused` where the words, the loop file, a data file or the head are refused;
+/// - `ReadFault` where a file that the call reaches isn't held, or its read failed; nothing was written;
 /// - `WriteFault` where a put failed; a prefix of the text was written;
 /// - `NoMemory` for want of memory; nothing was written.
 pub fn floop_words<F: Files, K: Sink>(
@@ -33,8 +35,8 @@ pub fn floop_words<F: Files, K: Sink>(
 ) -> Status
     // Where the bytes are told and no count of faults rose, the call gives the answer, unless memory ran out.
     ensures headline { IfSome (F.held files.old) (λ held.
-        (Rose (F.faults files.old) (F.faults files.new) → ⊥) → (Rose (K.faults out.old) (K.faults out.new) → ⊥) → result ≢ Status.NoMemory →
-        GivesAnswer (texts words.now) held result (K.written out.old) (K.written out.new)) }
+        (Rose (F.faults files.old) (F.faults files.new) → ⊥) → (Rose (K.faults out.old) (K.faults out.new) → ⊥) →
+        result ≢ Status.NoMemory → GivesAnswer (texts words.now) held result (K.written out.old) (K.written out.new)) }
 
     // Words that are no request are refused, whatever files tell; where the sink fails, a prefix of their text is left.
     ensures words_refused { IfErr (request_in (texts words.now)) (λ text.
@@ -69,7 +71,7 @@ pub fn floop_words<F: Files, K: Sink>(
     ensures files_kept { result ≢ Status.ReadFault → F.faults files.new ≡ F.faults files.old }
     ensures sink_kept { result ≢ Status.WriteFault → K.faults out.new ≡ K.faults out.old }
 
-    // The call changes no file.
+    // Nothing changes of what files tell that they hold.
     ensures held { F.held files.new ≡ F.held files.old }
 {
     match output_for(alloc, words, files) {

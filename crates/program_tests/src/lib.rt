@@ -5,8 +5,11 @@
 #[cfg(test)]
 mod edges;
 #[cfg(test)]
+mod limits;
+#[cfg(test)]
 mod refusals;
-pub mod run;
+#[cfg(test)]
+mod run;
 #[cfg(test)]
 mod runs;
 #[cfg(test)]

@@ -1,11 +1,10 @@
 //! Words, loop files and heads that are refused.
 
-use crate::run::{Row, check, files_of, words_of};
-use edge_io::MemorySink;
-use floop_run::{Status, floop_words};
+use crate::run::{Row, bytes_of, check, check_call, files_of, words_of};
+use floop_run::Status;
 use std::test::Fail;
 
-static TEXTS: [Row; 8] = [
+static TEXTS: [Row; 10] = [
     ("", "", "line 1: bad nesting\n"),
     ("for x in 1:3", "", "line 2: bad nesting\n"),
     (
@@ -28,7 +27,18 @@ static TEXTS: [Row; 8] = [
         "",
         "line 2: bad nesting\n",
     ),
+    // a reason of a line's own comes before the nesting of an earlier line
+    (
+        "end\nfor x in 1:2\nx ==\nend\n",
+        "",
+        "line 3: not a line of the language\n",
+    ),
     ("for x in 1:0:5\nend\n", "", "line 1: step is zero\n"),
+    (
+        "for p in 1:4294967297\n@reduce s += 1\nend\nprint s\n",
+        "",
+        "line 1: 4294967297 items, at most 4294967296\n",
+    ),
     (
         "for p in 1:4294967297\n@reduce c = count()\nend\n",
         "",
@@ -70,7 +80,7 @@ fn heads(rt: HostRuntime) -> Result<(), Fail> {
     check(&rt, rt.alloc(), "check", &HEADS, Status::Refused)
 }
 
-static OFFENCES: [Row; 10] = [
+static OFFENCES: [Row; 11] = [
     (
         "for x in 1:2\nlet y = z\n@reduce s += y\nend\nprint s\n",
         "",
@@ -95,6 +105,11 @@ static OFFENCES: [Row; 10] = [
         "for x in 1:2\n@reduce s += x\nlet y = s\nend\nprint s\n",
         "",
         "line 3: reducer s used in the loop\n",
+    ),
+    (
+        "for x in 1:2\n@init b = 0\n@reduce s += b\ncontinue\nb = 1\nend\nprint s\n",
+        "",
+        "line 3: carried scratch b\n",
     ),
     (
         "for x in 1:2\n@reduce s += x\n@reduce s = max(x)\nend\n",
@@ -128,12 +143,53 @@ fn offences(rt: HostRuntime) -> Result<(), Fail> {
     check(&rt, rt.alloc(), "run", &OFFENCES, Status::Refused)
 }
 
-static WORDS: [(&[&str], &[u8]); 8] = [
+/// A loop file and a data file that are spoilt, as bytes.
+static BYTES: [(&[&str], &[u8], &[u8], &[u8]); 5] = [
+    (&["run", "loop=loop"], b"\xFF", b"", b"byte 1: not UTF-8\n"),
+    (
+        &["check", "loop=loop"],
+        b"for x in 1:2\n\xC3\xA9\xC3\nend\n",
+        b"",
+        b"byte 16: not UTF-8\n",
+    ),
+    (
+        &["run", "loop=loop", "data=1"],
+        b"for t in col(\"v\")\nend\n",
+        b"",
+        b"data: no header\n",
+    ),
+    (
+        &["run", "loop=loop", "data=1"],
+        b"for t in col(\"v\")\nend\n",
+        b"v\n\xFF\n",
+        b"data: record 2: not UTF-8\n",
+    ),
+    (
+        &["run", "loop=loop", "data=1,1"],
+        b"for t in col(\"v\")\nend\n",
+        b"v\n\xFF\n",
+        b"data file 1: record 2: not UTF-8\n",
+    ),
+];
+
+#[test]
+fn bytes(rt: HostRuntime) -> Result<(), Fail> {
+    let alloc = rt.alloc();
+    for (words, text, data, line) in &BYTES {
+        let words = words_of(alloc, words)?;
+        let mut files = bytes_of(alloc, text, data)?;
+        check_call(&rt, alloc, &words, &mut files, line, Status::Refused);
+    }
+    Ok(())
+}
+
+static WORDS: [(&[&str], &[u8]); 12] = [
     (
         &[],
         b"usage: floop check, explain, run, pool or try, then name=value\n",
     ),
     (&["pool", "loop=loop"], b"unknown command: pool\n"),
+    (&["explain", "loop=loop"], b"unknown command: explain\n"),
     (&["run", "loop"], b"not a setting: loop\n"),
     (
         &["run", "workers=33", "loop=loop"],
@@ -145,21 +201,22 @@ static WORDS: [(&[&str], &[u8]); 8] = [
         &["run", "loop=loop", "data=a.csv,"],
         b"bad value: data=a.csv,\n",
     ),
-    (&["check"], b"missing setting: loop\n"),
+    (&["run"], b"missing setting: loop\n"),
+    (&["check", "data=1"], b"missing setting: loop\n"),
+    // the first word that isn't taken decides
+    (&["run", "data=", "loop=", "stop"], b"bad value: data=\n"),
+    (&["run", "x=", "x="], b"unknown setting: x\n"),
 ];
 
 #[test]
 fn words(rt: HostRuntime) -> Result<(), Fail> {
     let alloc = rt.alloc();
-    for (words, wanted) in &WORDS {
+    for (words, line) in &WORDS {
         let words = words_of(alloc, words)?;
         // The first read would fail, but none is made.
         let mut files = files_of(alloc, "", "")?;
         files.fail_at(alloc, 1)?;
-        let mut out = MemorySink::new(alloc);
-        let status = floop_words(alloc, &words, &mut files, &mut out);
-        assert_eq!(rt; out.bytes(), *wanted);
-        assert_eq!(rt; status, Status::Refused);
+        check_call(&rt, alloc, &words, &mut files, line, Status::Refused);
     }
     Ok(())
 }

@@ -31,6 +31,14 @@ pub fn files_of(alloc: Global, text: &str, data: &str) -> Result<MemoryFiles, Fa
     Ok(files)
 }
 
+/// Files that hold the loop as `loop` and one data file as `1`, of any bytes.
+pub fn bytes_of(alloc: Global, text: &[u8], data: &[u8]) -> Result<MemoryFiles, Fail> {
+    let mut files = MemoryFiles::new(alloc);
+    files.add(alloc, "loop", text)?;
+    files.add(alloc, "1", data)?;
+    Ok(files)
+}
+
 /// The setting `data` for as many files.
 fn data_word(data: &str) -> &'static str {
     match data.split('|').count() {
@@ -41,28 +49,40 @@ fn data_word(data: &str) -> &'static str {
 }
 
 /// The words of a row under a command.
-fn row_words(alloc: Global, command: &str, data: &str) -> Result<Vec<String>, Fail> {
+fn row_words(alloc: Global, command: &'static str, data: &str) -> Result<Vec<String>, Fail> {
     if data.is_empty() {
         return words_of(alloc, &[command, "loop=loop"]);
     }
     words_of(alloc, &[command, "loop=loop", data_word(data)])
 }
 
+/// A call with the words over the files writes just this into a sink that doesn't fail, and ends so.
+pub fn check_call(
+    rt: &impl Abort,
+    alloc: Global,
+    words: &[String],
+    files: &mut MemoryFiles,
+    written: &[u8],
+    wanted: Status,
+) {
+    let mut out = MemorySink::new(alloc);
+    let status = floop_words(alloc, words, files, &mut out);
+    assert_eq!(rt; out.bytes(), written);
+    assert_eq!(rt; status, wanted);
+}
+
 /// Each row, under the command, writes what it says and ends so.
 pub fn check(
     rt: &impl Abort,
     alloc: Global,
-    command: &str,
+    command: &'static str,
     rows: &[Row],
     wanted: Status,
 ) -> Result<(), Fail> {
-    for (text, data, line) in rows {
+    for (text, data, written) in rows {
         let words = row_words(alloc, command, data)?;
         let mut files = files_of(alloc, text, data)?;
-        let mut out = MemorySink::new(alloc);
-        let status = floop_words(alloc, &words, &mut files, &mut out);
-        assert_eq!(rt; out.bytes(), line.as_bytes());
-        assert_eq!(rt; status, wanted);
+        check_call(rt, alloc, &words, &mut files, written.as_bytes(), wanted);
     }
     Ok(())
 }

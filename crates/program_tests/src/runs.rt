@@ -4,7 +4,7 @@ use crate::run::{Row, check};
 use floop_run::Status;
 use std::test::Fail;
 
-static RANGES: [Row; 11] = [
+static RANGES: [Row; 14] = [
     ("for x in 1:10\n@reduce s += x\nend\nprint s\n", "", "55\n"),
     (
         "for x in 5:1\n@reduce s += x\n@reduce m = max(x)\n@reduce l = list(x)\n@reduce g = group(text(x), count())\n@reduce a = all(x > 0)\nend\nprint s\nprint m\nprint l\nprint g\nprint a\n",
@@ -50,6 +50,23 @@ static RANGES: [Row; 11] = [
         "for x in 1:3\n@keep n = tryint(\"7\")\n@reduce s += n * x\nend\nprint s\n",
         "",
         "42\n",
+    ),
+    // sums past 64 bits are exact
+    (
+        "for x in 9223372036854775806:9223372036854775807\n@reduce s += x\nend\nprint s\n",
+        "",
+        "18446744073709551613\n",
+    ),
+    (
+        "for x in -2:2\n@reduce s += x * x - 2 * x\nend\nprint s\n",
+        "",
+        "10\n",
+    ),
+    // CR LF, tabs, comments, blank lines and a last line without LF
+    (
+        "# ten\r\n\r\nfor x in (1):10 # to ten\r\n\t@reduce  s=sum( x )\r\nend\r\nprint\ts",
+        "",
+        "55\n",
     ),
     // as many lines as `print` lines, in their order; none where there is none
     (

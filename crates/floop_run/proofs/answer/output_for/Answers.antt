@@ -11,6 +11,6 @@ pub returns-in-Ok-clause-read_fault : goal.returns-in-Ok-clause-read_fault
 returns-in-Ok-clause-read_fault g c =
     asked_missing (texts c.args.words.now) (request_seen c.in-Ok.request) (g.F.Files.held c.args.files.now) _ _ c.in-Ok.ensures.request c.loop_output.ensures.read_fault
 
-pub returns-in_ok-words_output-in-Err-clause-output : goal.returns-in_ok-words_output-in-Err-clause-output
-returns-in_ok-words_output-in-Err-clause-output g c =
-    every (g.F.Files.held c.args.files.now) _ (λ held. refused_answer (texts c.args.words.now) _ held _ c.in-Err.ensures.refusal c.in_ok-words_output-in-Err.ensures.answer)
+pub returns-in_ok-refusal_of-in-Err-clause-output : goal.returns-in_ok-refusal_of-in-Err-clause-output
+returns-in_ok-refusal_of-in-Err-clause-output g c =
+    every (g.F.Files.held c.args.files.now) _ (λ held. refused_answer (texts c.args.words.now) _ held _ c.in-Err.ensures.refusal c.in_ok-refusal_of-in-Err.ensures.answer)
