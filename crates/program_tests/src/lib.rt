@@ -8,7 +8,8 @@ mod edges;
 mod limits;
 #[cfg(test)]
 mod refusals;
-pub mod run;
+#[cfg(test)]
+mod run;
 #[cfg(test)]
 mod runs;
 #[cfg(test)]
