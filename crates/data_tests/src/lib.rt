@@ -4,19 +4,15 @@
 use data_files::{DataStop, read_data};
 use edge_io::{Files, MemoryFiles};
 use std::alloc::{AllocError, Global};
-use std::process::Abort;
 use std::test::Fail;
 
 #[cfg(test)]
 mod reads;
 
-/// Data files, parted by `|`, which are held as `1`, `2` and so on; and what reading them says.
-type Row = (&'static str, &'static str);
-
 /// The names of the data files.
 static NAMES: [&str; 3] = ["1", "2", "3"];
 
-/// Files that hold these.
+/// Files that hold these data files, parted by `|`, as `1`, `2` and so on.
 pub fn files_of(alloc: Global, data: &str) -> Result<MemoryFiles, Fail> {
     let mut files = MemoryFiles::new(alloc);
     for (name, bytes) in NAMES.iter().zip(data.split('|')) {
@@ -37,14 +33,4 @@ pub fn shown<F: Files>(alloc: Global, names: &[&str], files: &mut F) -> Result<S
         Err(DataStop::Failed) => String::from_str(alloc, "failed"),
         Err(DataStop::NoMemory) => String::from_str(alloc, "out of memory"),
     }
-}
-
-/// Each row's files, as many of them as these names say, are what the row says.
-pub fn check(rt: &impl Abort, alloc: Global, names: &[&str], rows: &[Row]) -> Result<(), Fail> {
-    for (data, wanted) in rows {
-        let mut files = files_of(alloc, data)?;
-        let given = shown(alloc, names, &mut files)?;
-        assert_eq!(rt; given.as_str(), *wanted);
-    }
-    Ok(())
 }

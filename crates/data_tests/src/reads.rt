@@ -1,7 +1,22 @@
 //! One file, several, and files that fail.
 
-use crate::{Row, check, files_of, shown};
+use crate::{files_of, shown};
+use std::alloc::Global;
+use std::process::Abort;
 use std::test::Fail;
+
+/// Data files, parted by `|`, which are held as `1`, `2` and so on; and what reading them says.
+type Row = (&'static str, &'static str);
+
+/// Each row's files, as many of them as these names say, are what the row says.
+fn check(rt: &impl Abort, alloc: Global, names: &[&str], rows: &[Row]) -> Result<(), Fail> {
+    for (data, wanted) in rows {
+        let mut files = files_of(alloc, data)?;
+        let given = shown(alloc, names, &mut files)?;
+        assert_eq!(rt; given.as_str(), *wanted);
+    }
+    Ok(())
+}
 
 static ONE: [Row; 6] = [
     ("v\n1\n2\n", "2 rows, 1 files"),

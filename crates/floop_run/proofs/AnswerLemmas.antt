@@ -1,15 +1,9 @@
 -- Which answers there are: where the answer is that of a file that isn't held, no other is given.
-use Rattle.std.proofs.Common.{◌≡◌, ℕ, List, Result, Ok, Err, subst}
-use Rattle.std.specs.Prelude.{IfOk}
+use Rattle.std.proofs.Common.{◌≡◌, ℕ, List, subst}
 use Rattle.edge_io.specs.Reading.{Held}
 use Rattle.floop_run.specs.Answers.{Answer, not_held, IsAnswer}
 use Rattle.floop_run.specs.TopCall.{IsAnswered}
 use Rattle.floop_run.proofs.AnswerLaws.{one_answer}
-
--- two facts of what is given together
-pub both_ok : {X E : Type 0} (r : Result X E) (P Q R : X → Type 0) → ((x : X) → P x → Q x → R x) → IfOk r P → IfOk r Q → IfOk r R
-both_ok (Ok x) P Q R f p q = f x p q
-both_ok (Err e) P Q R f p q = p
 
 not_answered : (answer : Answer) → answer ≡ not_held → IsAnswered answer.status → ⊥
 not_answered answer e h = subst (λ a. IsAnswered a.status) e h

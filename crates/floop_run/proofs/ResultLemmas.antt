@@ -1,13 +1,10 @@
--- From a row and its states to the results of a program, and from how a run ended to the answer.
+-- From a row and its states to the results of a program.
 use Rattle.std.proofs.Common.{◌≡◌, ℕ, List, [], ◌++◌, Option, Some, None, Result, Ok, Err, refl, sym, ap, subst, ◌∙◌}
 use Rattle.std.specs.Prelude.{◌↔◌}
 use Rattle.loop_data.specs.declared.value.Value.{Value}
 use Rattle.loop_results.specs.ResultTexts.{result_text}
 use Rattle.loop_grammar.specs.declared.tree.ProgramTree.{ProgramTree}
 use Rattle.loop_meaning.specs.declared.steps.Emitted.{Emitted}
-use Rattle.loop_meaning.specs.declared.runs.Run.{Run}
-use Rattle.loop_meaning.specs.declared.runs.PlainStop.{PlainStop}
-use Rattle.loop_meaning.specs.declared.runs.PlainStop.TheVariants as stop
 use Rattle.loop_meaning.specs.Reducers.{inputs_of}
 use Rattle.reducer_tower.specs.declared.named.Named.{Named}
 use Rattle.reducer_tower.specs.declared.state.TowerState.{TowerState}
@@ -16,13 +13,9 @@ use Rattle.reducer_tower.specs.declared.row.RowStop.TheVariants.{NoSuchName}
 use Rattle.reducer_tower.specs.Rows.{RowStands, IsTextOf, number_of, starts_of}
 use Rattle.fitting_inputs.specs.ReduceLines.{reducer_kind}
 use Rattle.plain_path.specs.Rows.{row_of, numbered}
-use Rattle.plain_path.specs.Paths.{HasNoFault}
 use Rattle.plain_path.proofs.InputLemmas.{inputs_in_row}
 use Rattle.plain_path.proofs.RowLemmas.{first_lines_kept, others_have_none, tower_at}
-use Rattle.floop_run.specs.Results.{text_of, results_text}
-use Rattle.floop_run.specs.Answers.{done, ended_answer, run_answer}
-
--- ---- texts of a row
+use Rattle.floop_run.specs.Results.{text_of}
 
 -- whichever inputs the states of the program's row stand for, what a row's text says is the text of the program's reducer
 module _ (program : ProgramTree) (states : List TowerState) (emitted : List Emitted) (name text : List ℕ) where
@@ -53,14 +46,3 @@ module _ (program : ProgramTree) (states : List TowerState) (emitted : List Emit
 -- a name that the program's row doesn't have has no text
 pub no_text : (program : ProgramTree) (row : List Named) (name : List ℕ) (inputs : List Value) → row ≡ row_of program → number_of name row ≡ None → text_of (reducer_kind program name) inputs ≡ []
 no_text program row name inputs same none = ap (λ k. text_of k inputs) (others_have_none program name (ap (number_of name) (sym same) ∙ none))
-
--- ---- how a run ended
-
--- a run without a fault comes to its results
-pub run_done : (program : ProgramTree) (run : Run) → HasNoFault run.stop → run_answer program run ≡ done (results_text program run)
-run_done program run = at run.stop
-  where
-    at : (how : PlainStop) → HasNoFault how → ended_answer program run how ≡ done (results_text program run)
-    at stop.Ran without = refl
-    at (stop.Break place in_line) without = refl
-    at (stop.Fault place in_line kind) without = absurd (without place in_line kind refl)

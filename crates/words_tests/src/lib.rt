@@ -4,11 +4,6 @@
 
 use program_words::{Call, Request, Setting, request_of};
 use std::alloc::{AllocError, Global};
-use std::process::Abort;
-use std::test::Fail;
-
-/// Words parted by `|`, and what they are.
-type Row = (&'static str, &'static str);
 
 #[cfg(test)]
 mod requests;
@@ -44,14 +39,4 @@ pub fn shown(alloc: Global, call: Call, words: &[String]) -> Result<String, Allo
         Err(refusal) => write!(out, "{refusal}")?,
     }
     Ok(out)
-}
-
-/// Each row's words are what the row says.
-pub fn check(rt: &impl Abort, alloc: Global, call: Call, rows: &[Row]) -> Result<(), Fail> {
-    for (text, wanted) in rows {
-        let words = words_of(alloc, text)?;
-        let given = shown(alloc, call, &words)?;
-        assert_eq!(rt; given.as_str(), *wanted);
-    }
-    Ok(())
 }

@@ -1,8 +1,23 @@
 //! Requests and refusals of both calls.
 
-use crate::{Row, check};
+use crate::{shown, words_of};
 use program_words::Call;
+use std::alloc::Global;
+use std::process::Abort;
 use std::test::Fail;
+
+/// Words parted by `|`, and what they are.
+type Row = (&'static str, &'static str);
+
+/// Each row's words are what the row says.
+fn check(rt: &impl Abort, alloc: Global, call: Call, rows: &[Row]) -> Result<(), Fail> {
+    for (text, wanted) in rows {
+        let words = words_of(alloc, text)?;
+        let given = shown(alloc, call, &words)?;
+        assert_eq!(rt; given.as_str(), *wanted);
+    }
+    Ok(())
+}
 
 static REQUESTS: [Row; 9] = [
     ("run|loop=a", "run [loop] a"),
