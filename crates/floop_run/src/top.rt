@@ -67,7 +67,7 @@ pub fn floop_words<F: Files, K: Sink>(
     // Want of memory may come at any place before the first put.
     ensures no_memory { result ≡ Status.NoMemory → K.written out.new ≡ K.written out.old }
 
-    // A count of faults rises nowhere else: nothing is put after a failed put, and no failed read is passed over.
+    // A count of faults rises nowhere else: no failed read or put is passed over, or made good by another.
     ensures files_kept { result ≢ Status.ReadFault → F.faults files.new ≡ F.faults files.old }
     ensures sink_kept { result ≢ Status.WriteFault → K.faults out.new ≡ K.faults out.old }
 
