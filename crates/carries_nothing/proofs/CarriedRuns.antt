@@ -11,7 +11,7 @@ use Rattle.loop_meaning.specs.declared.runs.Run.{Run}
 use Rattle.loop_meaning.specs.declared.runs.PlainStop.TheVariants as stop
 use Rattle.loop_meaning.specs.declared.steps.BodyEnd.TheVariants as end
 use Rattle.loop_meaning.specs.declared.steps.BodyRun.{BodyRun}
-use Rattle.loop_meaning.specs.declared.steps.Emitted.{Emitted}
+use Rattle.loop_meaning.specs.declared.steps.Pair.{Pair}
 use Rattle.loop_meaning.specs.declared.steps.Flow.TheVariants.{Going}
 use Rattle.loop_meaning.specs.Runs.{after_stop, followed_by, loop_run, with_step}
 use Rattle.loop_meaning.specs.Steps.{Step, body_step}
@@ -22,11 +22,11 @@ abbrev pub number : ℕ → Value
 number n = Int (pos n)
 
 -- the value goes to the reducer s
-abbrev pub emits : Value → List Emitted
+abbrev pub emits : Value → List Pair
 emits v = record { name = codes "s"; input = v } ∷ []
 
 -- a body run that goes on
-abbrev pub done : Bindings → List Emitted → BodyRun
+abbrev pub done : Bindings → List Pair → BodyRun
 done names emitted = record { names = names; emitted = emitted; flow = Going }
 
 -- the step emits the value and goes on
@@ -48,7 +48,7 @@ module _ (program : ProgramTree) where
       ap (λ how. (with_step (skips_faults program) how step place (loop_run program step.store [] (place + 1))).stop) is.end
 
   -- the number that was emitted second
-  abbrev second_number : List Emitted → ℤ
+  abbrev second_number : List Pair → ℤ
   second_number (first ∷ second ∷ more) = as_int second.input
   second_number _ = pos 0
 

@@ -17,14 +17,14 @@ use Rattle.legality_rules.specs.Scopes.{Scope, fits_pattern, is_known, item_kind
 use Rattle.legality_rules.specs.Lines.{Entry, Form, condition, first_head, init_line, inner_head, keep_line, let_line, reduce_line, set_line, var_line}
 use Rattle.legality_rules.specs.Rules.{is_of, items_fit, passes, repeated}
 use Rattle.loop_meaning.specs.declared.steps.BodyRun.{BodyRun}
-use Rattle.loop_meaning.specs.declared.steps.Emitted.{Emitted}
+use Rattle.loop_meaning.specs.declared.steps.Pair.{Pair}
 use Rattle.loop_meaning.specs.declared.steps.Flow.TheVariants.{Going}
 
 -- a test of emitted pairs: whether an input may go to the reducer of that name
 abbrev pub Test : Type 0
-Test = Emitted → Bool
+Test = Pair → Bool
 
-abbrev pub pair : List ℕ → Value → Emitted
+abbrev pub pair : List ℕ → Value → Pair
 pair name input = record { name = name; input = input }
 
 -- ---- names

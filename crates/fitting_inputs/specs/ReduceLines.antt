@@ -11,7 +11,7 @@ use Rattle.loop_data.specs.declared.statement.Statement.TheFolds.{fold-Statement
 use Rattle.loop_grammar.specs.declared.tree.ProgramTree.{ProgramTree}
 use Rattle.loop_values.specs.Fits.{fits_tower}
 use Rattle.tower_inputs.specs.Towers.{kind_of_tower}
-use Rattle.loop_meaning.specs.declared.steps.Emitted.{Emitted}
+use Rattle.loop_meaning.specs.declared.steps.Pair.{Pair}
 
 -- an `@reduce` line: its reducer's name, the kind of its tower, and the value after `from`, if it has one
 pub record ReduceLine : Type 0 where
@@ -58,7 +58,7 @@ fits_kind None input = false
 fits_kind (Some kind) input = fits_tower kind input
 
 -- whether the pair's name is a reducer's, and its input has the form and the kinds that this reducer's tower takes
-abbrev pub fits_reducer : ProgramTree → Emitted → Bool
+abbrev pub fits_reducer : ProgramTree → Pair → Bool
 fits_reducer program pair = fits_kind (reducer_kind program pair.name) pair.input
 
 abbrev pub StartFits : Option Value → Kind → Type 0

@@ -4,7 +4,7 @@ use Rattle.std.specs.Prelude.{◌↔◌}
 use Rattle.loop_data.specs.declared.value.Value.{Value}
 use Rattle.loop_results.specs.ResultTexts.{result_text}
 use Rattle.loop_grammar.specs.declared.tree.ProgramTree.{ProgramTree}
-use Rattle.loop_meaning.specs.declared.steps.Emitted.{Emitted}
+use Rattle.loop_meaning.specs.declared.steps.Pair.{Pair}
 use Rattle.loop_meaning.specs.Reducers.{inputs_of}
 use Rattle.reducer_tower.specs.declared.named.Named.{Named}
 use Rattle.reducer_tower.specs.declared.state.TowerState.{TowerState}
@@ -18,7 +18,7 @@ use Rattle.plain_path.proofs.RowLemmas.{first_lines_kept, others_have_none, towe
 use Rattle.floop_run.specs.Results.{text_of}
 
 -- whichever inputs the states of the program's row stand for, what a row's text says is the text of the program's reducer
-module _ (program : ProgramTree) (states : List TowerState) (emitted : List Emitted) (name text : List ℕ) where
+module _ (program : ProgramTree) (states : List TowerState) (emitted : List Pair) (name text : List ℕ) where
   text_at : IsTextOf (row_of program) states name text → RowStands (row_of program) states (starts_of (row_of program) ++ numbered (row_of program) emitted) →
       (i : ℕ) → number_of name (row_of program) ≡ Some i → text ≡ text_of (reducer_kind program name) (inputs_of program emitted name)
   text_at is stands i e =

@@ -8,7 +8,7 @@ use Rattle.loop_data.specs.declared.head.PrintLine.{PrintLine}
 use Rattle.loop_results.specs.ResultTexts.{result_text}
 use Rattle.loop_grammar.specs.declared.tree.ProgramTree.{ProgramTree}
 use Rattle.loop_grammar.specs.SkippedFaults.{skips_faults}
-use Rattle.loop_meaning.specs.declared.steps.Emitted.{Emitted}
+use Rattle.loop_meaning.specs.declared.steps.Pair.{Pair}
 use Rattle.loop_meaning.specs.declared.runs.Run.{Run}
 use Rattle.loop_meaning.specs.Stores.{start_store}
 use Rattle.loop_meaning.specs.Runs.{loop_run}
@@ -27,7 +27,7 @@ text_of None inputs = []
 text_of (Some kind) inputs = result_text kind inputs
 
 -- the line of a `print` line, given what counts of what the run emitted
-abbrev pub result_line : ProgramTree → List Emitted → PrintLine → List ℕ
+abbrev pub result_line : ProgramTree → List Pair → PrintLine → List ℕ
 result_line program emitted print = line (text_of (reducer_kind program print.name) (inputs_of program emitted print.name))
 
 -- how many faults were skipped, in a program that skips them

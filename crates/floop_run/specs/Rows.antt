@@ -2,7 +2,7 @@
 -- Source: this project.
 use Rattle.std.specs.Prelude.{◌≡◌, List, ◌++◌}
 use Rattle.loop_grammar.specs.declared.tree.ProgramTree.{ProgramTree}
-use Rattle.loop_meaning.specs.declared.steps.Emitted.{Emitted}
+use Rattle.loop_meaning.specs.declared.steps.Pair.{Pair}
 use Rattle.reducer_tower.specs.declared.row.Row.{Row}
 use Rattle.reducer_tower.specs.declared.row.RowState.{RowState}
 use Rattle.reducer_tower.specs.declared.row.Emitted.{Emitted as Input}
@@ -18,6 +18,6 @@ abbrev pub StandForSome : Row → RowState → Type 0
 StandForSome row state = (inputs : List Input) × StandFor row state inputs
 
 -- The row is that of the program's reducers, and its states stand for their start values and what counts of what was emitted.
-pub record AreResults (program : ProgramTree) (row : Row) (state : RowState) (emitted : List Emitted) : Type 0 where
+pub record AreResults (program : ProgramTree) (row : Row) (state : RowState) (emitted : List Pair) : Type 0 where
   pub reducers : row.towers.items ≡ row_of program
   pub stands : StandFor row state (starts_of row.towers.items ++ numbered row.towers.items emitted)

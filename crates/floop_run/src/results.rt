@@ -4,7 +4,7 @@ ghost use Rattle.std.specs.Prelude.{◌≡◌, ◌++◌, List, IfOk, OnOk, flat_
 ghost use Rattle.loop_grammar.specs.declared.tree.ProgramTree.{ProgramTree};
 ghost use Rattle.loop_grammar.specs.SkippedFaults.{skips_faults};
 ghost use Rattle.loop_meaning.specs.declared.runs.Run.{Run};
-ghost use Rattle.loop_meaning.specs.declared.steps.Emitted.{Emitted};
+ghost use Rattle.loop_meaning.specs.declared.steps.Pair.{Pair};
 ghost use Rattle.plain_path.specs.Paths.{AreHeadItems};
 ghost use Rattle.floop_run.specs.Results.{fault_text, fault_line, result_line, results_text, skipped_line, whole_run};
 ghost use Rattle.floop_run.specs.Rows.{AreResults, StandForSome};
@@ -52,7 +52,7 @@ fn result_line(
     print: &PrintLine,
 ) -> Result<Vec<u8>, NoMemory>
     requires { StandForSome row.now state.now }
-    ensures { IfOk result (λ line. (program : ProgramTree) (emitted : List Emitted) →
+    ensures { IfOk result (λ line. (program : ProgramTree) (emitted : List Pair) →
         AreResults program row.now state.now emitted → line.items ≡ result_line program emitted print.now) }
 {
     match row.text(alloc, state, print.name.as_str()) {
@@ -74,7 +74,7 @@ fn result_lines(
     prints: &[PrintLine],
 ) -> Result<Vec<Vec<u8>>, NoMemory>
     requires { StandForSome row.now state.now }
-    ensures { IfOk result (λ lines. (program : ProgramTree) (emitted : List Emitted) →
+    ensures { IfOk result (λ lines. (program : ProgramTree) (emitted : List Pair) →
         AreResults program row.now state.now emitted → joined lines.items ≡ flat_map (result_line program emitted) prints.now) }
 {
     let mut lines = Vec::with_capacity(alloc, prints.len())?;

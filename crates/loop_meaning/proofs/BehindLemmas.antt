@@ -18,7 +18,7 @@ use Rattle.loop_values.specs.Operations.{Outcome}
 use Rattle.loop_values.specs.Values.{Meaning, value_of}
 use Rattle.tower_inputs.specs.Inputs.{input_of}
 use Rattle.loop_meaning.specs.declared.steps.BodyRun.{BodyRun}
-use Rattle.loop_meaning.specs.declared.steps.Emitted.{Emitted}
+use Rattle.loop_meaning.specs.declared.steps.Pair.{Pair}
 use Rattle.loop_meaning.specs.declared.steps.Flow.TheVariants.{Going}
 use Rattle.loop_meaning.specs.Laws.{BlocksEmitBehind, HeadsEmitBehind, behind}
 use Rattle.loop_meaning.specs.Statements.{Action, Choice, block_run, branch_run, branch_step, emitting, evaluating, first_true, in_turn, is_going, keeping_something, matching, naming, statement_run, statement_step, while_going, with_value}
@@ -26,9 +26,9 @@ use Rattle.loop_meaning.specs.Steps.{body_run, first_run, for_each, for_item, in
 
 -- the action does the same behind what was emitted before
 pub record Appends (action : Action) : Type 0 where
-  pub same : (before : List Emitted) (run : BodyRun) → action (behind before run) ≡ behind before (action run)
+  pub same : (before : List Pair) (run : BodyRun) → action (behind before run) ≡ behind before (action run)
 
-quiet : (action : Action) → ((before : List Emitted) (run : BodyRun) → action (behind before run) ≡ behind before (action run)) → Appends action
+quiet : (action : Action) → ((before : List Pair) (run : BodyRun) → action (behind before run) ≡ behind before (action run)) → Appends action
 quiet action h = record { same = h }
 
 -- ---- the parts of statements
@@ -51,7 +51,7 @@ emits name v = quiet _ (λ before run i. record {
   flow = run.flow;
 })
 
-going_at : (action : Action) → Appends action → (before : List Emitted) (run : BodyRun) (b : Bool) →
+going_at : (action : Action) → Appends action → (before : List Pair) (run : BodyRun) (b : Bool) →
     (if b then action (behind before run) else behind before run) ≡ behind before (if b then action run else run)
 going_at action e before run true = e.same before run
 going_at action e before run false = refl
@@ -153,14 +153,14 @@ pub heads_emit_behind : HeadsEmitBehind
 heads_emit_behind program heads width before run = (heads_append program heads width).same before run
 
 -- the body runs of a step, behind what was emitted before it
-pub step_behind : (program : ProgramTree) (names : Bindings) (before : List Emitted) →
+pub step_behind : (program : ProgramTree) (names : Bindings) (before : List Pair) →
     inner_runs program program.head.inner 1 (record { names = names; emitted = before; flow = Going }) ≡ behind before (inner_runs program program.head.inner 1 (first_run names))
 step_behind program names before =
     ap (λ xs. inner_runs program program.head.inner 1 (record { names = names; emitted = xs; flow = Going })) (sym (append-nil before))
     ∙ heads_emit_behind program program.head.inner 1 before (first_run names)
 
 -- the same, as the code has it: where the tree, the heads, the names and what was emitted before are those
-pub step_run : (tree program : ProgramTree) (store : Bindings) (item : Value) (place : ℕ) (heads : List Inner) (names : Bindings) (before emitted : List Emitted) (run : BodyRun) →
+pub step_run : (tree program : ProgramTree) (store : Bindings) (item : Value) (place : ℕ) (heads : List Inner) (names : Bindings) (before emitted : List Pair) (run : BodyRun) →
     tree ≡ program → heads ≡ tree.head.inner → names ≡ names_for tree store item place → emitted ≡ before →
     run ≡ inner_runs tree heads 1 (record { names = names; emitted = emitted; flow = Going }) →
     run ≡ behind before (inner_runs program program.head.inner 1 (first_run (names_for program store item place)))

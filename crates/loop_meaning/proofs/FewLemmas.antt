@@ -24,7 +24,7 @@ use Rattle.loop_values.specs.Values.{value_of}
 use Rattle.loop_meaning.specs.declared.steps.BodyRun.{BodyRun}
 use Rattle.loop_meaning.specs.declared.steps.BodyEnd.{BodyEnd}
 use Rattle.loop_meaning.specs.declared.steps.BodyEnd.TheVariants as end
-use Rattle.loop_meaning.specs.declared.steps.Emitted.{Emitted}
+use Rattle.loop_meaning.specs.declared.steps.Pair.{Pair}
 use Rattle.loop_meaning.specs.declared.runs.Run.{Run}
 use Rattle.loop_meaning.specs.Laws.{InputsAreFew, RunsEmitFew, StepsEmitAtMost, StepsEmitFew}
 use Rattle.loop_meaning.specs.Reducers.{emitted_under, or_none, sites_of, start_of}
@@ -148,8 +148,8 @@ filtered_few : {A : Type 0} (p : A → Bool) (xs : List A) → length (filter p 
 filtered_few p [] = omega arith
 filtered_few p (x ∷ xs) = filtered_at p x xs (p x) (filtered_few p xs)
 
-under_few : (name : List ℕ) (emitted : List Emitted) → length (emitted_under name emitted) ≤ length emitted
-under_few name emitted = omega (arith, length-map (filter (λ x. bytes_eq x.name name) emitted) (λ (x : Emitted). x.input), filtered_few (λ (x : Emitted). bytes_eq x.name name) emitted)
+under_few : (name : List ℕ) (emitted : List Pair) → length (emitted_under name emitted) ≤ length emitted
+under_few name emitted = omega (arith, length-map (filter (λ x. bytes_eq x.name name) emitted) (λ (x : Pair). x.input), filtered_few (λ (x : Pair). bytes_eq x.name name) emitted)
 
 or_none_few : (v : Option Value) → length (or_none v) ≤ 1
 or_none_few None = omega arith

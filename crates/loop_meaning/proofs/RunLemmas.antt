@@ -8,7 +8,7 @@ use Rattle.loop_grammar.specs.declared.tree.ProgramTree.{ProgramTree}
 use Rattle.loop_values.specs.Bindings.{Bindings}
 use Rattle.loop_meaning.specs.declared.steps.BodyEnd.{BodyEnd}
 use Rattle.loop_meaning.specs.declared.steps.BodyEnd.TheVariants as end
-use Rattle.loop_meaning.specs.declared.steps.Emitted.{Emitted}
+use Rattle.loop_meaning.specs.declared.steps.Pair.{Pair}
 use Rattle.loop_meaning.specs.declared.runs.PlainStop.{PlainStop}
 use Rattle.loop_meaning.specs.declared.runs.PlainStop.TheVariants as stop
 use Rattle.loop_meaning.specs.declared.runs.Run.{Run}
@@ -17,7 +17,7 @@ use Rattle.loop_meaning.specs.Runs.{after_stop, followed_by, loop_run, no_run, w
 use Rattle.loop_meaning.specs.Steps.{Step, body_step}
 
 -- runs with equal parts are equal
-same_run : (store : Bindings) (stop : PlainStop) (xs ys : List Emitted) (m n : ℕ) → xs ≡ ys → m ≡ n →
+same_run : (store : Bindings) (stop : PlainStop) (xs ys : List Pair) (m n : ℕ) → xs ≡ ys → m ≡ n →
     ◌≡◌ {A = Run} (record { store = store; emitted = xs; skipped = m; stop = stop }) (record { store = store; emitted = ys; skipped = n; stop = stop })
 same_run store stop xs ys m n e f = λ i. record { store = store; emitted = e i; skipped = f i; stop = stop }
 
@@ -123,7 +123,7 @@ kept_at false (end.Fault line kind) step place run after e ran is =
     ∙ sym (ap (λ s. after_stop s run (record { store = step.store; emitted = step.emitted; skipped = 0; stop = stop.Fault place line kind })) ran)
 
 -- runs with equal parts are equal
-pub run_of : (a b : Bindings) (xs ys : List Emitted) (m n : ℕ) (p q : PlainStop) → a ≡ b → xs ≡ ys → m ≡ n → p ≡ q →
+pub run_of : (a b : Bindings) (xs ys : List Pair) (m n : ℕ) (p q : PlainStop) → a ≡ b → xs ≡ ys → m ≡ n → p ≡ q →
     ◌≡◌ {A = Run} (record { store = a; emitted = xs; skipped = m; stop = p }) (record { store = b; emitted = ys; skipped = n; stop = q })
 run_of a b xs ys m n p q e f g h = λ i. record { store = e i; emitted = f i; skipped = g i; stop = h i }
 

@@ -12,7 +12,7 @@ use Rattle.column_input.specs.Table.{Contents}
 use Rattle.loop_meaning.specs.declared.steps.BodyEnd.{BodyEnd}
 use Rattle.loop_meaning.specs.declared.steps.BodyEnd.TheVariants as end
 use Rattle.loop_meaning.specs.declared.steps.BodyRun.{BodyRun}
-use Rattle.loop_meaning.specs.declared.steps.Emitted.{Emitted}
+use Rattle.loop_meaning.specs.declared.steps.Pair.{Pair}
 use Rattle.loop_meaning.specs.declared.runs.PlainStop.{PlainStop}
 use Rattle.loop_meaning.specs.declared.runs.PlainStop.TheVariants.{Ran, Break, Fault}
 use Rattle.loop_meaning.specs.Counts.{axis_count, items_count}
@@ -103,17 +103,17 @@ StoreStays = (program : ProgramTree) (store : Bindings) (item : Value) (place : 
     program.vars ≡ [] → program.scratch ≡ [] → (body_step program store item place).store ≡ store
 
 -- the body run, with this emitted before
-abbrev pub behind : List Emitted → Action
+abbrev pub behind : List Pair → Action
 behind before run = record run { emitted = before ++ run.emitted }
 
 -- what was emitted before changes nothing of what a block does, and stands before what the block emits
 abbrev pub BlocksEmitBehind : Type 0
-BlocksEmitBehind = (block : List Statement) (before : List Emitted) (run : BodyRun) →
+BlocksEmitBehind = (block : List Statement) (before : List Pair) (run : BodyRun) →
     block_run block (behind before run) ≡ behind before (block_run block run)
 
 -- the same of the body runs of inner heads
 abbrev pub HeadsEmitBehind : Type 0
-HeadsEmitBehind = (program : ProgramTree) (heads : List Inner) (width : ℕ) (before : List Emitted) (run : BodyRun) →
+HeadsEmitBehind = (program : ProgramTree) (heads : List Inner) (width : ℕ) (before : List Pair) (run : BodyRun) →
     inner_runs program heads width (behind before run) ≡ behind before (inner_runs program heads width run)
 
 -- a step emits at most 1,000,000 inputs for each `@reduce` line

@@ -8,7 +8,7 @@ use Rattle.loop_data.specs.declared.statement.Branch.{Branch}
 use Rattle.loop_data.specs.declared.statement.Statement.TheOpen.{Statement-F, Statement-F as s, Branch-F}
 use Rattle.loop_data.specs.declared.statement.Statement.TheFolds.{fold-Statement, fold-Branch}
 use Rattle.loop_grammar.specs.declared.tree.ProgramTree.{ProgramTree}
-use Rattle.loop_meaning.specs.declared.steps.Emitted.{Emitted}
+use Rattle.loop_meaning.specs.declared.steps.Pair.{Pair}
 use Rattle.loop_meaning.specs.declared.reducers.Site.{Site}
 use Rattle.loop_meaning.specs.declared.runs.Named.{Named}
 use Rattle.loop_meaning.specs.declared.runs.PlainEnd.{PlainEnd}
@@ -67,19 +67,19 @@ or_none None = []
 or_none (Some v) = v ∷ []
 
 -- what was emitted under a name, in order
-abbrev pub emitted_under : List ℕ → List Emitted → List Value
+abbrev pub emitted_under : List ℕ → List Pair → List Value
 emitted_under name emitted = map (λ x. x.input) (filter (λ x. bytes_eq x.name name) emitted)
 
 -- the inputs of a name, given the `@reduce` lines: its start value, where it has one, and then all that was emitted under it, in
 -- order
-abbrev pub inputs_among : List Site → List Emitted → List ℕ → List Value
+abbrev pub inputs_among : List Site → List Pair → List ℕ → List Value
 inputs_among sites emitted name = or_none (start_among sites name) ++ emitted_under name emitted
 
-abbrev pub inputs_of : ProgramTree → List Emitted → List ℕ → List Value
+abbrev pub inputs_of : ProgramTree → List Pair → List ℕ → List Value
 inputs_of program = inputs_among (sites_of program)
 
 -- a name with its inputs
-abbrev pub named_among : List Site → List Emitted → List ℕ → Named
+abbrev pub named_among : List Site → List Pair → List ℕ → Named
 named_among sites emitted name = record { name = name; list = inputs_among sites emitted name }
 
 -- ---- the whole

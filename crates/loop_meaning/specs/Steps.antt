@@ -14,7 +14,7 @@ use Rattle.loop_meaning.specs.declared.steps.Flow.TheVariants.{Going, Continued,
 use Rattle.loop_meaning.specs.declared.steps.BodyRun.{BodyRun}
 use Rattle.loop_meaning.specs.declared.steps.BodyEnd.{BodyEnd}
 use Rattle.loop_meaning.specs.declared.steps.BodyEnd.TheVariants.{Next, Break, Fault}
-use Rattle.loop_meaning.specs.declared.steps.Emitted.{Emitted}
+use Rattle.loop_meaning.specs.declared.steps.Pair.{Pair}
 use Rattle.loop_meaning.specs.Statements.{Action, block_run, faulting, in_turn, naming, with_pattern}
 use Rattle.loop_meaning.specs.Stores.{keeping, stored_names}
 
@@ -71,7 +71,7 @@ names_for program store item place = with_pattern (insert store place_name (Int 
 -- what a step leaves: the store, what it emitted in order, and its end
 pub record Step : Type 0 where
   pub store : Bindings
-  pub emitted : List Emitted
+  pub emitted : List Pair
   pub end : BodyEnd
 
 abbrev pub end_of : Flow → BodyEnd

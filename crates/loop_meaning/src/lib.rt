@@ -19,5 +19,5 @@ pub use items::{ItemList, items_of};
 pub use reducers::{Site, run_plain};
 pub use runs::{Named, PlainEnd, PlainStop, Run};
 pub use statements::{bind_pattern, run_block, run_statement};
-pub use steps::{BodyEnd, BodyRun, Emitted, Flow, step_plain};
+pub use steps::{BodyEnd, BodyRun, Pair, Flow, step_plain};
 pub use stores::start_store;

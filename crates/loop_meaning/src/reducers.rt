@@ -11,7 +11,7 @@ ghost use Rattle.loop_meaning.specs.Reducers.{all_sites, sites_in, sites_in_bran
 
 use crate::runs::loop_run;
 use crate::stores::start_store;
-use crate::{Emitted, ItemList, Named, PlainEnd, Run};
+use crate::{Pair, ItemList, Named, PlainEnd, Run};
 use loop_data::{Branch, Many, Statement, TextValue, Value};
 use loop_grammar::ProgramTree;
 use loop_syntax::Program;
@@ -155,7 +155,7 @@ fn start_among<'a>(sites: &'a [Site], name: &TextValue) -> Option<&'a Value>
 fn inputs_among(
     alloc: Global,
     sites: &[Site],
-    emitted: &[Emitted],
+    emitted: &[Pair],
     name: &TextValue,
 ) -> Result<Many<Value>, NoMemory>
     ensures { IfOk result (λ inputs. inputs ≡ inputs_among sites.now emitted.now name.now) }
@@ -171,7 +171,7 @@ fn inputs_among(
 /// Puts what was emitted under a name behind these inputs, in order.
 fn push_emitted(
     alloc: Global,
-    emitted: &[Emitted],
+    emitted: &[Pair],
     name: &TextValue,
     inputs: &mut Many<Value>,
 ) -> Result<(), NoMemory>
@@ -208,7 +208,7 @@ fn end_of_run(alloc: Global, program: &ProgramTree, run: &Run) -> Result<PlainEn
 fn named_inputs(
     alloc: Global,
     sites: &[Site],
-    emitted: &[Emitted],
+    emitted: &[Pair],
     names: &[TextValue],
 ) -> Result<Many<Named>, NoMemory>
     ensures { IfOk result (λ all. all ≡ map (named_among sites.now emitted.now) names.now) }

@@ -5,7 +5,7 @@ ghost use Rattle.loop_grammar.specs.SkippedFaults.{skips_faults};
 ghost use Rattle.loop_meaning.specs.Chosen.{is_fault, is_skipped, stop_at};
 ghost use Rattle.loop_meaning.specs.Runs.{followed_by, loop_run, no_run};
 
-use crate::{BodyEnd, Emitted, step_plain};
+use crate::{BodyEnd, Pair, step_plain};
 use loop_data::{Many, TextValue, Value};
 use loop_syntax::Program;
 use loop_values::Env;
@@ -27,7 +27,7 @@ pub enum PlainStop {
 #[derive(Debug, Drop)]
 pub struct Run {
     pub store: Env,
-    pub emitted: Many<Emitted>,
+    pub emitted: Many<Pair>,
     pub skipped: u64,
     pub stop: PlainStop,
 }
@@ -60,7 +60,7 @@ fn has_stopped(stop: PlainStop) -> bool
 }
 
 /// The first of these, so many of them.
-fn first_of(emitted: Many<Emitted>, count: usize) -> Many<Emitted>
+fn first_of(emitted: Many<Pair>, count: usize) -> Many<Pair>
     ensures { result ≡ take count emitted }
 {
     let mut emitted = emitted.into_vec();

@@ -8,7 +8,7 @@ ghost use Rattle.tower_inputs.specs.Inputs.{input_of};
 ghost use Rattle.loop_meaning.specs.Chosen.{unless};
 ghost use Rattle.loop_meaning.specs.Statements.{Action, faulting, emitting, naming, with_parts, with_pattern, matching, keeping_something, evaluating, is_going, block_run, branch_run, first_true, statement_run};
 
-use crate::{BodyRun, Emitted, Flow};
+use crate::{BodyRun, Pair, Flow};
 use loop_data::{Branch, Expr, Many, Statement, TextValue, TowerExpr, Value};
 use loop_values::{Env, EvalStop, eval};
 use no_memory::NoMemory;
@@ -53,7 +53,7 @@ impl BodyRun {
         ensures { OnOk result (self.new ≡ emitting name.now input self.old) }
     {
         let name = name.copy(alloc)?;
-        self.emitted.push(alloc, Emitted { name, input })
+        self.emitted.push(alloc, Pair { name, input })
     }
 }
 

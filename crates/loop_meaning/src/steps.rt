@@ -19,7 +19,7 @@ const PLACE: &str = "place";
 
 /// An input that an `@reduce` line emits for the reducer of that name.
 #[derive(Debug, PartialEq, Eq, Drop)]
-pub struct Emitted {
+pub struct Pair {
     pub name: TextValue,
     pub input: Value,
 }
@@ -41,7 +41,7 @@ pub enum Flow {
 #[derive(Debug, Drop)]
 pub struct BodyRun {
     pub names: Env,
-    pub emitted: Many<Emitted>,
+    pub emitted: Many<Pair>,
     pub flow: Flow,
 }
 
@@ -133,7 +133,7 @@ pub fn step_plain(
     store: &mut Env,
     item: Value,
     place: u64,
-    emitted: &mut Many<Emitted>,
+    emitted: &mut Many<Pair>,
 ) -> Result<BodyEnd, NoMemory>
     requires place { place < 2 ^ 63 }
     ensures end { IfOk result (λ end. end ≡ (body_step program.now store.old item place).end) }

@@ -1,7 +1,7 @@
 //! What a step or a body run left, as a text.
 
 use loop_data::Value;
-use loop_meaning::{BodyEnd, BodyRun, Emitted, Flow};
+use loop_meaning::{BodyEnd, BodyRun, Pair, Flow};
 use loop_values::Env;
 use std::alloc::{AllocError, Global};
 
@@ -9,7 +9,7 @@ use std::alloc::{AllocError, Global};
 static NAMES: [&str; 8] = ["a", "b", "c", "k", "p", "x", "y", "place"];
 
 /// The inputs of these pairs, each behind its name: ` s=21 p=7`.
-fn push_pairs(out: &mut String, emitted: &[Emitted]) -> Result<(), AllocError> {
+fn push_pairs(out: &mut String, emitted: &[Pair]) -> Result<(), AllocError> {
     for pair in emitted {
         let name = pair.name.as_str();
         write!(out, " {name}={}", &pair.input)?;
@@ -59,7 +59,7 @@ pub fn names(alloc: Global, names: &Env) -> Result<String, AllocError> {
 pub fn step(
     alloc: Global,
     end: BodyEnd,
-    emitted: &[Emitted],
+    emitted: &[Pair],
     store: &Env,
 ) -> Result<String, AllocError> {
     let mut out = String::new(alloc);

@@ -3,7 +3,7 @@
 use crate::run::read;
 use crate::shown;
 use loop_data::{Many, Value};
-use loop_meaning::{BodyEnd, Emitted, start_store, step_plain};
+use loop_meaning::{BodyEnd, Pair, start_store, step_plain};
 use loop_syntax::Program;
 use loop_values::Env;
 use no_memory::NoMemory;
@@ -85,7 +85,7 @@ fn step(
     store: &mut Env,
     item: i64,
     place: u32,
-    emitted: &mut Many<Emitted>,
+    emitted: &mut Many<Pair>,
 ) -> Result<BodyEnd, NoMemory> {
     let item = Value::Int(item);
     step_plain(alloc, program, store, item, u64::from(place), emitted)
@@ -98,7 +98,7 @@ fn steps(
     store: &mut Env,
     items: &[i64],
     first: u32,
-    emitted: &mut Many<Emitted>,
+    emitted: &mut Many<Pair>,
 ) -> Result<BodyEnd, NoMemory> {
     let mut place = first;
     let mut end = BodyEnd::Next;

@@ -9,7 +9,7 @@ use Rattle.loop_grammar.specs.declared.tree.ProgramTree.{ProgramTree}
 use Rattle.loop_grammar.specs.WellFormed.{is_well_formed}
 use Rattle.loop_syntax.proofs.WellFormedTexts.{well_formed_is_spelled}
 use Rattle.legality_rules.specs.Offences.{IsLegal}
-use Rattle.loop_meaning.specs.declared.steps.Emitted.{Emitted as Pair}
+use Rattle.loop_meaning.specs.declared.steps.Pair.{Pair}
 use Rattle.reducer_tower.specs.declared.named.Named.{Named}
 use Rattle.reducer_tower.specs.Rows.{fits_start, number_of, start_fits}
 use Rattle.fitting_inputs.specs.Laws.{LegalStartsFit, ReduceLinesAreFew}

@@ -6,7 +6,7 @@ use Rattle.std.proofs.lemmas.Bool.{eqb-true}
 use Rattle.std.proofs.lemmas.List.{map-append}
 use Rattle.std.proofs.lemmas.List.Elements.{filter-append}
 use Rattle.loop_data.specs.declared.value.Value.{Value}
-use Rattle.loop_meaning.specs.declared.steps.Emitted.{Emitted as Pair}
+use Rattle.loop_meaning.specs.declared.steps.Pair.{Pair}
 use Rattle.loop_meaning.specs.Reducers.{emitted_under, or_none, start_of}
 use Rattle.reducer_tower.specs.declared.named.Named.{Named}
 use Rattle.reducer_tower.specs.declared.row.Emitted.{Emitted}

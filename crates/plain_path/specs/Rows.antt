@@ -5,7 +5,7 @@ use Rattle.std.specs.List.{list_all}
 use Rattle.loop_data.specs.declared.value.Value.{Value}
 use Rattle.loop_values.specs.Fits.{fits_tower}
 use Rattle.loop_grammar.specs.declared.tree.ProgramTree.{ProgramTree}
-use Rattle.loop_meaning.specs.declared.steps.Emitted.{Emitted as Pair}
+use Rattle.loop_meaning.specs.declared.steps.Pair.{Pair}
 use Rattle.reducer_tower.specs.declared.row.Emitted.{Emitted}
 use Rattle.reducer_tower.specs.declared.named.Named.{Named}
 use Rattle.reducer_tower.specs.Rows.{number_of, named_tower}

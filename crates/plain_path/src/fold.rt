@@ -15,7 +15,7 @@ ghost use Rattle.plain_path.specs.Walked.{HaveRoom, StandsFor, TakeBehind, item_
 use legality_check::LegalProgram;
 use loop_data::{Many, Value};
 use loop_items::{HeadItems, Walk};
-use loop_meaning::{BodyEnd, Emitted, start_store, step_plain};
+use loop_meaning::{BodyEnd, Pair, start_store, step_plain};
 use loop_syntax::Program;
 use loop_values::Env;
 use no_memory::NoMemory;
@@ -39,17 +39,17 @@ struct Walked {
     state: RowState,
     skipped: u64,
     /// Where an item's pairs are put; empty between items, so that they share its memory.
-    emitted: Many<Emitted>,
+    emitted: Many<Pair>,
 }
 
 /// The states with one more pair, for the reducer of its name.
-fn add_pair(alloc: Global, row: &Row, state: &mut RowState, pair: Emitted) -> Result<(), NoMemory>
+fn add_pair(alloc: Global, row: &Row, state: &mut RowState, pair: Pair) -> Result<(), NoMemory>
     requires fits { fits_number row.now.towers.items (number_of pair.name row.now.towers.items) pair.input ≡ true }
     requires room { HaveRoom row.now.towers.items state.old 1 }
     ensures { OnOk result (TakeBehind row.now.towers.items state.old state.new
         (input_for (number_of pair.name row.now.towers.items) pair.input)) }
 {
-    let Emitted { name, input } = pair;
+    let Pair { name, input } = pair;
     match row.tower(name.as_str()) {
         Some(tower) => row.next(
             alloc,
@@ -68,7 +68,7 @@ fn add_pairs(
     alloc: Global,
     row: &Row,
     state: &mut RowState,
-    pairs: &mut Many<Emitted>,
+    pairs: &mut Many<Pair>,
 ) -> Result<(), NoMemory>
     requires fit { pairs_fit row.now.towers.items pairs.old ≡ true }
     requires room { HaveRoom row.now.towers.items state.old (length pairs.old) }
@@ -85,7 +85,7 @@ fn add_pairs(
 }
 
 /// Gives up these pairs. The list keeps its memory.
-fn drop_pairs(alloc: Global, pairs: &mut Many<Emitted>)
+fn drop_pairs(alloc: Global, pairs: &mut Many<Pair>)
     ensures { pairs.new ≡ [] }
 {
     let mut list = std::mem::replace(pairs, Many::new(alloc)).into_vec();
