@@ -6,6 +6,7 @@ use Rattle.std.specs.List.{list_all, AllByRecursion}
 use Rattle.std.specs.FinMap.{empty, get, insert}
 use Rattle.std.proofs.lemmas.Bool.{and_from, and_parts}
 use Rattle.std.proofs.lemmas.Int.{ints}
+use Rattle.number_ranges.specs.Ranges.{most_items}
 use Rattle.loop_data.specs.declared.value.Value.{Value}
 use Rattle.loop_data.specs.declared.value.Value.TheVariants.{Int}
 use Rattle.loop_data.specs.declared.value.Value.TheOpen.{Value-F as v}
@@ -31,7 +32,6 @@ use Rattle.loop_meaning.specs.Runs.{loop_run, with_step}
 use Rattle.loop_meaning.specs.Steps.{Step, body_step, first_run, inner_runs, names_for}
 use Rattle.loop_meaning.specs.Stores.{start_store, stored_names, variables}
 use Rattle.fitting_inputs.specs.Fitting.{EntryFits, Test}
-use Rattle.fitting_inputs.specs.Laws.{most_places}
 use Rattle.fitting_inputs.proofs.FreshNames.{AreTold, IsTold, all_back, all_both, all_front, fresh_told}
 use Rattle.fitting_inputs.proofs.HeadScopes.{PartsFit, after_heads, after_pattern, before_body, of_inner, of_pattern, of_scratches, of_vars, parts_fit}
 use Rattle.fitting_inputs.proofs.ItemLemmas.{items_fit}
@@ -42,11 +42,11 @@ use Rattle.fitting_inputs.proofs.StoreLemmas.{AreBound, IsBound, keeping_bound, 
 -- ---- places
 
 -- a place of an item
-place_fits : (n : ℕ) → 1 ≤ n → n ≤ most_places → is_place_at (v.Int (pos n)) ≡ true
+place_fits : (n : ℕ) → 1 ≤ n → n ≤ most_items → is_place_at (v.Int (pos n)) ≡ true
 place_fits n least most =
     let above : int_lt (pos 0) (pos n) ≡ true = grind (arith, ints) in
-    let within : int_lt (pos 4294967296) (pos n) ≡ false = grind (arith, ints) in
-    and_from (int_lt (pos 0) (pos n)) (not (int_lt (pos 4294967296) (pos n))) above (not_false (int_lt (pos 4294967296) (pos n)) within)
+    let within : int_lt (pos most_items) (pos n) ≡ false = grind (arith, ints) in
+    and_from (int_lt (pos 0) (pos n)) (not (int_lt (pos most_items) (pos n))) above (not_false (int_lt (pos most_items) (pos n)) within)
 
 -- the pairs of a step and of what follows it
 step_first : (test : Test) (skips : Bool) (e : BodyEnd) (step : Step) (place : ℕ) (rest : Run) → list_all test step.emitted ≡ true → list_all test rest.emitted ≡ true →
@@ -119,7 +119,7 @@ module _ (test : Test) (program : ProgramTree) (parts : PartsFit test program) w
 
   -- the names at the start of a step, with an item of this kind
   names_fit : (store : Bindings) (item : Value) (place : ℕ) (x : ValueKind) → item_kind program.head.product program.head.axes ≡ Some x → fits x item ≡ true →
-      1 ≤ place → place ≤ most_places → AreBound store stored → BoundWith stored (of_pattern program) (names_for program store item place)
+      1 ≤ place → place ≤ most_items → AreBound store stored → BoundWith stored (of_pattern program) (names_for program store item place)
   names_fit store item place x is fit least most h =
       let ns : List (List ℕ) = program.head.names in
       let takes : fits_pattern ns x ≡ true = sym (ap (pattern_takes ns) is) ∙ parts.takes in
@@ -131,7 +131,7 @@ module _ (test : Test) (program : ProgramTree) (parts : PartsFit test program) w
       (place_bound kinds store (Int (pos place)) stored told_stored h) placed)
 
   step_fits : (store : Bindings) (item : Value) (place : ℕ) (x : ValueKind) → item_kind program.head.product program.head.axes ≡ Some x → fits x item ≡ true →
-      1 ≤ place → place ≤ most_places → AreBound store stored → StepFits test stored (body_step program store item place)
+      1 ≤ place → place ≤ most_items → AreBound store stored → StepFits test stored (body_step program store item place)
   step_fits store item place x is fit least most h =
       let before = names_fit store item place x is fit least most h in
       let first : StandsFit test (of_pattern program ++ stored) (first_run (names_for program store item place)) = record {
@@ -151,13 +151,13 @@ module _ (test : Test) (program : ProgramTree) (parts : PartsFit test program) w
   -- ---- runs
 
   run_fits : (x : ValueKind) → item_kind program.head.product program.head.axes ≡ Some x → (store : Bindings) (items : List Value) (place : ℕ) → list_all (fits x) items ≡ true →
-      1 ≤ place → place + length items ≤ most_places + 1 → AreBound store stored → list_all test (loop_run program store items place).emitted ≡ true
+      1 ≤ place → place + length items ≤ most_items + 1 → AreBound store stored → list_all test (loop_run program store items place).emitted ≡ true
   run_fits x is store [] place fit least most h = refl
   run_fits x is store (item ∷ items) place fit least most h =
       let both = and_parts (fits x item) (list_all (fits x) items) fit in
-      let within : place ≤ most_places = omega arith in
+      let within : place ≤ most_items = omega arith in
       let later : 1 ≤ place + 1 = omega arith in
-      let rest : (place + 1) + length items ≤ most_places + 1 = omega arith in
+      let rest : (place + 1) + length items ≤ most_items + 1 = omega arith in
       let step = step_fits store item place x is both.0 least within h in
       step_first test (skips_faults program) (body_step program store item place).end (body_step program store item place) place
       (loop_run program (body_step program store item place).store items (place + 1)) step.emitted
@@ -169,7 +169,7 @@ kind_given ns (Some x) takes = (x, refl)
 kind_given ns None takes = absurd (cc)
 
 -- what a loop whose entries fit emits over its items passes the test
-pub runs_fit : (test : Test) (program : ProgramTree) (table : Contents) → AllByRecursion (EntryFits test) (entries_of program) → length (items_of program table) ≤ most_places →
+pub runs_fit : (test : Test) (program : ProgramTree) (table : Contents) → AllByRecursion (EntryFits test) (entries_of program) → length (items_of program table) ≤ most_items →
     list_all test (loop_run program (start_store program) (items_of program table) 1).emitted ≡ true
 runs_fit test program table entries most =
     let parts = parts_fit test program entries in

@@ -2,6 +2,7 @@
 -- Source: this project.
 use Rattle.std.specs.Prelude.{◌≡◌, ◌≤◌, ℕ, true, List, map, length, Option, Some}
 use Rattle.std.specs.List.{list_all, AllByRecursion}
+use Rattle.number_ranges.specs.Ranges.{most_items}
 use Rattle.loop_data.specs.declared.value.Value.{Value}
 use Rattle.loop_data.specs.declared.value.ValueKind.{ValueKind}
 use Rattle.loop_data.specs.declared.head.HeadLine.{HeadLine}
@@ -13,7 +14,7 @@ use Rattle.column_input.specs.Table.{Contents}
 use Rattle.legality_rules.specs.Cuts.{scope_after}
 use Rattle.legality_rules.specs.Lines.{in_turn, statement_listing}
 use Rattle.legality_rules.specs.Offences.{IsLegal}
-use Rattle.legality_rules.specs.Rules.{most_sites}
+use Rattle.tower_inputs.specs.Inputs.{most_sites}
 use Rattle.legality_rules.specs.Scopes.{Scope, item_kind}
 use Rattle.loop_meaning.specs.declared.steps.BodyRun.{BodyRun}
 use Rattle.loop_meaning.specs.Items.{Sources, head_items, items_of}
@@ -43,14 +44,10 @@ ItemsFit = (head : HeadLine) (sources : Sources) (kind : ValueKind) →
 
 -- ---- runs
 
--- the most items of a loop
-abbrev pub most_places : ℕ
-most_places = 4294967296
-
 -- whatever a legal loop emits over its items, each input fits the tower of its reducer
 abbrev pub LegalRunsFit : Type 0
 LegalRunsFit = (text : List ℕ) (program : ProgramTree) (table : Contents) → SpellsProgram text program → IsLegal program →
-    length (items_of program table) ≤ most_places →
+    length (items_of program table) ≤ most_items →
     list_all (fits_reducer program) (loop_run program (start_store program) (items_of program table) 1).emitted ≡ true
 
 -- ---- reducers

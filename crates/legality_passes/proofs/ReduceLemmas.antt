@@ -12,7 +12,8 @@ use Rattle.legality_rules.specs.declared.scope.Site.{Site}
 use Rattle.legality_rules.specs.Scopes.{Scope, is_in, kinds_in}
 use Rattle.legality_rules.specs.Towers.{Inputs, input_kinds, takes_start, where_given}
 use Rattle.legality_rules.specs.Lines.{Entry, reduce_line}
-use Rattle.legality_rules.specs.Rules.{Outline, Spot, allowed, bound_by, differs_from_first, inputs_fit, is_none, may_start as may_start_at, most_sites, reduced_by, sites_in, sites_of, starts_refused}
+use Rattle.tower_inputs.specs.Inputs.{most_sites}
+use Rattle.legality_rules.specs.Rules.{Outline, Spot, allowed, bound_by, differs_from_first, inputs_fit, is_none, may_start as may_start_at, reduced_by, sites_in, sites_of, starts_refused}
 use Rattle.legality_rules.specs.Offences.{offence}
 use Rattle.legality_rules.specs.Cuts.{or_else, first_named}
 use Rattle.legality_passes.specs.declared.state.State.{State}

@@ -13,7 +13,8 @@ use Rattle.tower_inputs.specs.Towers.{kind_of_tower, names_read_in_tower}
 use Rattle.legality_rules.specs.declared.scope.Site.{Site}
 use Rattle.legality_rules.specs.Scopes.{is_in}
 use Rattle.legality_rules.specs.Towers.{input_kinds, takes_start}
-use Rattle.legality_rules.specs.Rules.{allowed, inputs_fit, most_sites, site_differs}
+use Rattle.tower_inputs.specs.Inputs.{most_sites}
+use Rattle.legality_rules.specs.Rules.{allowed, inputs_fit, site_differs}
 use Rattle.legality_passes.specs.declared.state.State.{State}
 use Rattle.legality_passes.specs.Answers.{answer, illegal, leftmost, and_then}
 use Rattle.legality_passes.specs.LineChecks.{Checked, only_if}

@@ -16,10 +16,7 @@ use loop_data::{Kind, Many, TextValue, TowerExpr, Value, ValueKind};
 use loop_values::{TypeStop, Types, is_same_kind};
 use no_memory::NoMemory;
 use std::alloc::Global;
-use tower_inputs::{are_same_kinds, is_same_tower, kind_of_tower, types_of_input};
-
-/// The most `@reduce` lines.
-const MOST_SITES: usize = 64;
+use tower_inputs::{MOST_SITES, are_same_kinds, is_same_tower, kind_of_tower, types_of_input};
 
 /// The kinds of a tower's expressions from left to right, where each has one that it takes.
 fn input_kinds(

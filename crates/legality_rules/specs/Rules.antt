@@ -13,6 +13,7 @@ use Rattle.loop_values.specs.Kinds.{Kinded, is_int, is_bool, is_maybe, same_kind
 use Rattle.legality_rules.specs.declared.scope.Sort.{Sort}
 use Rattle.legality_rules.specs.declared.scope.Site.{Site}
 use Rattle.legality_rules.specs.Scopes.{Scope, is_in, is_known, sort_in, is_variable, is_loop_variable, is_scratch, kinds_in, fits_pattern, item_kind}
+use Rattle.tower_inputs.specs.Inputs.{most_sites}
 use Rattle.tower_inputs.specs.Towers.{kind_of_tower, same_tower}
 use Rattle.tower_inputs.specs.InputKinds.{same_kinds}
 use Rattle.legality_rules.specs.Towers.{takes_start, Inputs, input_kinds, inputs_differ}
@@ -203,10 +204,6 @@ first_bounds _ = []
 -- 9: a bound of a range in the first head is neither a literal nor an outer variable; the name is `for`
 abbrev pub heads_not_splittable : Rule
 heads_not_splittable outline spot = if list_all (is_splittable spot) (first_bounds spot.here.says) then [] else codes "for" ∷ []
-
--- the most `@reduce` lines
-abbrev pub most_sites : ℕ
-most_sites = 64
 
 -- 10: it is the 65th `@reduce` line
 abbrev pub sites_too_many : Rule

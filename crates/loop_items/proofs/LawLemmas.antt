@@ -5,8 +5,7 @@ use Rattle.std.specs.Ordering.{int_eq}
 use Rattle.std.proofs.lemmas.Int.{ints}
 use Rattle.std.proofs.lemmas.Bool.Decides.{nat_tests}
 use Rattle.std.proofs.lemmas.List.Elements.{All-cons, All-head, All-nil, All-tail, Contains-append_right}
-use Rattle.number_ranges.specs.Ranges.{range_count}
-use Rattle.splittable.specs.Ranges.{most_items}
+use Rattle.number_ranges.specs.Ranges.{range_count, most_items}
 use Rattle.splittable.specs.Places.{excess_of, first_excess, item_count}
 use Rattle.loop_meaning.specs.Items.{all_items, axis_items, items_of, sources_of}
 use Rattle.loop_items.specs.declared.refusal.HeadRefusal.{HeadRefusal}

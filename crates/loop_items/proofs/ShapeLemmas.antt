@@ -2,7 +2,7 @@
 use Rattle.std.proofs.Common.{◌≡◌, ℕ, ◌≤◌, Bool, true, false, List, [], ◌∷◌, length, map, Option, Some, None, Result, Ok, Err, refl, ap, ap₂, sym, subst, ◌∙◌, arith}
 use Rattle.std.specs.Prelude.{if◌then◌else◌, nat_lt}
 use Rattle.std.proofs.lemmas.Bool.Decides.{nat_tests}
-use Rattle.splittable.specs.Ranges.{most_items}
+use Rattle.number_ranges.specs.Ranges.{most_items}
 use Rattle.splittable.specs.Places.{checked_shape, excess_of, first_excess, item_count}
 use Rattle.splittable.specs.declared.shapes.ShapeRefusal.{ShapeRefusal}
 use Rattle.splittable.specs.declared.shapes.ShapeRefusal.TheVariants.{TooManyAxes, TooManyItems}

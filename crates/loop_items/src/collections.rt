@@ -2,7 +2,7 @@
 
 ghost use Rattle.std.specs.Prelude.{◌≡◌, ◌≢◌, ◌≤◌, ◌-◌, true, Err, Some, IfOk, length, map, slice_get};
 ghost use Rattle.std.specs.FinMap.{get};
-ghost use Rattle.splittable.specs.Ranges.{most_items};
+ghost use Rattle.number_ranges.specs.Ranges.{most_items};
 ghost use Rattle.column_input.specs.Table.{column_of};
 ghost use Rattle.loop_data.specs.declared.value.Value.TheVariants as value;
 ghost use Rattle.loop_grammar.specs.WellFormed.{is_plain};
@@ -37,7 +37,7 @@ enum Held<'a> {
 impl<'a> Model for Collection<'a> {
     ghost use Rattle.std.specs.Prelude.{◌≡◌, ◌≤◌, List, length};
     ghost use Rattle.std.specs.Coded.{coded_list};
-    ghost use Rattle.splittable.specs.Ranges.{most_items};
+    ghost use Rattle.number_ranges.specs.Ranges.{most_items};
     ghost use Rattle.loop_data.specs.declared.value.Value as value;
     ghost use Rattle.loop_data.specs.contracts.value.Value as row;
 

@@ -3,7 +3,7 @@
 ghost use Rattle.std.specs.Prelude.{◌≡◌, ◌≢◌, ◌≤◌, ◌-◌, Err, Some, All, IfOk, MatchResult, length, map, slice_get};
 ghost use Rattle.std.specs.List.{AllPass};
 ghost use Rattle.std.specs.FinMap.{get};
-ghost use Rattle.splittable.specs.Ranges.{most_items};
+ghost use Rattle.number_ranges.specs.Ranges.{most_items};
 ghost use Rattle.splittable.specs.Places.{AreOnAxes, excess_of, item_count};
 ghost use Rattle.loop_grammar.specs.WellFormed.{is_factor};
 ghost use Rattle.loop_meaning.specs.Items.{sources};

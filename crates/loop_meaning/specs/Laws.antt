@@ -1,6 +1,7 @@
 -- Laws of items, steps and runs.
 -- Source: this project.
 use Rattle.std.specs.Prelude.{◌≡◌, ◌≢◌, ◌≤◌, ◌<◌, ◌+◌, ◌-◌, ◌*◌, ◌^◌, ◌/◌, ◌%◌, ℕ, false, List, [], ◌∷◌, ◌++◌, length, Option, Some, None, option_and_then, slice_get, take}
+use Rattle.number_ranges.specs.Ranges.{most_items}
 use Rattle.loop_data.specs.declared.value.Value.{Value}
 use Rattle.loop_data.specs.declared.head.Axis.{Axis}
 use Rattle.loop_data.specs.declared.head.Inner.{Inner}
@@ -8,6 +9,8 @@ use Rattle.loop_data.specs.declared.statement.Statement.{Statement}
 use Rattle.loop_grammar.specs.SkippedFaults.{skips_faults}
 use Rattle.loop_grammar.specs.declared.tree.ProgramTree.{ProgramTree}
 use Rattle.loop_values.specs.Bindings.{Bindings}
+use Rattle.loop_values.specs.InnerItems.{inner_limit}
+use Rattle.tower_inputs.specs.Inputs.{most_sites}
 use Rattle.column_input.specs.Table.{Contents}
 use Rattle.loop_meaning.specs.declared.steps.BodyEnd.{BodyEnd}
 use Rattle.loop_meaning.specs.declared.steps.BodyEnd.TheVariants as end
@@ -119,22 +122,22 @@ HeadsEmitBehind = (program : ProgramTree) (heads : List Inner) (width : ℕ) (be
 -- a step emits at most 1,000,000 inputs for each `@reduce` line
 abbrev pub StepsEmitFew : Type 0
 StepsEmitFew = (program : ProgramTree) (store : Bindings) (item : Value) (place : ℕ) →
-    length (body_step program store item place).emitted ≤ 1000000 * length (sites_of program)
+    length (body_step program store item place).emitted ≤ inner_limit * length (sites_of program)
 
 -- so at most 64,000,000 where there are at most 64 such lines
 abbrev pub StepsEmitAtMost : Type 0
 StepsEmitAtMost = (program : ProgramTree) (store : Bindings) (item : Value) (place : ℕ) →
-    length (sites_of program) ≤ 64 → length (body_step program store item place).emitted ≤ 64000000
+    length (sites_of program) ≤ most_sites → length (body_step program store item place).emitted ≤ inner_limit * most_sites
 
 -- a run emits at most so many for each of its items
 abbrev pub RunsEmitFew : Type 0
 RunsEmitFew = (program : ProgramTree) (store : Bindings) (items : List Value) (place : ℕ) →
-    length (loop_run program store items place).emitted ≤ length items * (1000000 * length (sites_of program))
+    length (loop_run program store items place).emitted ≤ length items * (inner_limit * length (sites_of program))
 
 -- a name of a program of at most 64 `@reduce` lines has below 2^58 inputs in a run over at most 2^32 items
 abbrev pub InputsAreFew : Type 0
 InputsAreFew = (program : ProgramTree) (store : Bindings) (items : List Value) (place : ℕ) (name : List ℕ) →
-    length (sites_of program) ≤ 64 → length items ≤ 4294967296 →
+    length (sites_of program) ≤ most_sites → length items ≤ most_items →
     length (inputs_of program (loop_run program store items place).emitted name) < 2 ^ 58
 
 -- the number of a fault's kind is from 1 to 5

@@ -7,7 +7,7 @@ ghost use Rattle.loop_meaning.specs.Chosen.{is_skipped, stop_at};
 ghost use Rattle.loop_meaning.specs.Runs.{no_run};
 ghost use Rattle.loop_meaning.specs.Stores.{start_store};
 ghost use Rattle.reducer_tower.specs.Rows.{number_of};
-ghost use Rattle.splittable.specs.Ranges.{most_items};
+ghost use Rattle.number_ranges.specs.Ranges.{most_items};
 ghost use Rattle.plain_path.specs.Rows.{row_of, pairs_fit, fits_number, input_for, numbered};
 ghost use Rattle.plain_path.specs.Paths.{AreHeadItems, HasNoFault, IsEnd, run_over};
 ghost use Rattle.plain_path.specs.Walked.{HaveRoom, StandsFor, TakeBehind, item_run};

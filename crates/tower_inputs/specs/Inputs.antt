@@ -1,6 +1,6 @@
--- What an `@reduce` line emits: the input of its tower, evaluated from left to right, or the first fault.
+-- What an `@reduce` line emits: the input of its tower, evaluated from left to right, or the first fault; the most such lines.
 -- Source: this project.
-use Rattle.std.specs.Prelude.{if◌then◌else◌, [], ◌∷◌, Ok}
+use Rattle.std.specs.Prelude.{ℕ, if◌then◌else◌, [], ◌∷◌, Ok}
 use Rattle.loop_data.specs.declared.value.Value.{Value}
 use Rattle.loop_data.specs.declared.value.Value.TheVariants.{Nothing, Tuple}
 use Rattle.loop_data.specs.declared.tower.TowerExpr.{TowerExpr}
@@ -10,6 +10,10 @@ use Rattle.loop_values.specs.Bindings.{place_name}
 use Rattle.loop_values.specs.Operations.{Outcome, and_then}
 use Rattle.loop_values.specs.Values.{Meaning, bound, value_of}
 use Rattle.tower_inputs.specs.Towers.{with_place}
+
+-- the most `@reduce` lines of a loop
+abbrev pub most_sites : ℕ
+most_sites = 64
 
 abbrev pub pair_of : Value → Value → Value
 pair_of x y = Tuple (x ∷ y ∷ [])
