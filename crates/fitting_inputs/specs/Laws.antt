@@ -44,7 +44,7 @@ ItemsFit = (head : HeadLine) (sources : Sources) (kind : ValueKind) →
 
 -- ---- runs
 
--- whatever a legal loop emits over its items, each input fits the tower of its reducer
+-- of all that the run of a legal loop emits over its items, from the start and place 1, each input fits the tower of its reducer
 abbrev pub LegalRunsFit : Type 0
 LegalRunsFit = (text : List ℕ) (program : ProgramTree) (table : Contents) → SpellsProgram text program → IsLegal program →
     length (items_of program table) ≤ most_items →

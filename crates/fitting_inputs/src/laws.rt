@@ -14,7 +14,8 @@ pub fn items_fit_their_kind()
     ensures { ItemsFit }
 {}
 
-/// Whatever a legal loop emits over the items of its head, each input fits the tower of its reducer.
+/// Of all that the run of a legal loop emits over the items of its head, from the start and place 1, each input fits the tower of its
+/// reducer.
 pub fn legal_runs_emit_fitting()
     ensures { LegalRunsFit }
 {}
