@@ -35,7 +35,8 @@ words_after number =
 
 -- an offence with its line
 abbrev pub offence_text : Offence → List ℕ
-offence_text o = codes "line " ++ decimal o.line ++ codes ": " ++ words_before o.number ++ name_told o.number o.name ++ words_after o.number
+offence_text o =
+    codes "line " ++ decimal o.line ++ codes ": " ++ words_before o.number ++ name_told o.number o.name ++ words_after o.number
 
 -- what a refusal is called
 abbrev pub legal_text : LegalRefusal → List ℕ
