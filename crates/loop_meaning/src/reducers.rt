@@ -11,7 +11,7 @@ ghost use Rattle.loop_meaning.specs.Reducers.{all_sites, sites_in, sites_in_bran
 
 use crate::runs::loop_run;
 use crate::stores::start_store;
-use crate::{Pair, ItemList, Named, PlainEnd, Run};
+use crate::{ItemList, Named, Pair, PlainEnd, Run};
 use loop_data::{Branch, Many, Statement, TextValue, Value};
 use loop_grammar::ProgramTree;
 use loop_syntax::Program;
