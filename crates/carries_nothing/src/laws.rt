@@ -10,9 +10,9 @@ pub fn blocks_keep_runs_alike()
 {}
 
 /// The body of a legal loop does the same from names that agree but for unseen ones: those that are neither `place`, nor of the
-/// store, nor bound by a head, `let` or `@keep`, nor assigned (a reducer's is among these), and the scratches that some line assigns.
-/// So do the ranges of its inner heads. No step binds or assigns a name that lasts. Where a text spells the program, each item of
-/// an inner head leaves the names before it, but for unseen ones.
+/// store, nor bound by a head, `let` or `@keep`, nor assigned (a reducer's is among these), and the scratches that some line
+/// assigns. So do the ranges of its inner heads. No step binds or assigns a name that lasts. Where a text spells the program,
+/// each item of an inner head leaves the names before it, but for unseen ones.
 pub fn bodies_see_nothing_carried()
     ensures bodies { BodiesAreSame }
     ensures ranges { RangesAreSame }
@@ -49,8 +49,8 @@ pub fn legal_loop_carries_nothing()
     ensures end { PartsEndAsWhole }
 {}
 
-/// From a store that is reached each run leaves one. In a legal loop each of them is alike with the start; from it the loop runs as
-/// it does from the start, and the step of an item emits and ends so: what it does depends on the item and its place alone.
+/// From a store that is reached each run leaves one. In a legal loop each of them is alike with the start; from it the loop runs
+/// as it does from the start, and the step of an item emits and ends so: what it does depends on the item and its place alone.
 pub fn reached_stores_are_as_the_start()
     ensures reached { RunsReachStores }
     ensures alike { ReachedIsAlike }
