@@ -2,6 +2,7 @@ use Rattle.std.proofs.Common.{◌≡◌, Ok, Err, length, ap, ◌∙◌, arith}
 use Rattle.std.specs.FinMap.{get}
 use Rattle.loop_grammar.specs.declared.tree.ProgramTree.{ProgramTree}
 use Rattle.loop_meaning.specs.Items.{sources}
+use Rattle.loop_meaning.specs.Stores.{variables}
 use Rattle.loop_items.specs.Fields.{head_of_axes}
 use Rattle.loop_items.specs.declared.refusal.HeadRefusal.TheVariants as refused
 use Rattle.loop_items.proofs.Counted.{lists_many}
@@ -28,7 +29,7 @@ shape_of-requires-clause-most c =
 pub returns-in_err-shape : goal.returns-in_err-shape
 returns-in_err-shape c known =
     let same = handed_on c.from_residual-in_err-shape.result c.in_err-shape.field-0.0 c.from_residual-in_err-shape.ensures.1 in
-    let fine = open_of_program c.args.program.now c.tree.result.now c.tree.ensures.parts c.args.table.now c.as_slice.result.now c.in_ok-names.names c.in_ok-axes.axes.items c.as_slice.ensures c.in_ok-names.ensures c.in_ok-axes.ensures in
+    let fine = open_of_program c.args.program.now c.tree.result.now c.tree.ensures.parts c.args.table.now c.as_slice.result.now c.in_ok-names.names c.in_ok-axes.axes.items c.as_slice.ensures (c.in_ok-names.ensures ∙ ap variables c.tree.ensures.parts) c.in_ok-axes.ensures in
     let told =
     shape_of_program c.args.program.now c.tree.result.now c.tree.ensures.parts c.as_slice-2.result.now c.in_ok-axes.axes.items (Err c.in_err-shape.field-0.0) c.as_slice-2.ensures.value
     (c.in_err-shape.ensures (λ e. known (same ∙ ap Err (let q : c.in_err-shape.field-0.0 ≡ refused.NoMemory = cc e in q))))
@@ -42,7 +43,7 @@ invariant_of-result c =
 
 pub returns : goal.returns
 returns c known =
-    let fine = open_of_program c.args.program.now c.tree.result.now c.tree.ensures.parts c.args.table.now c.as_slice.result.now c.in_ok-names.names c.in_ok-axes.axes.items c.as_slice.ensures c.in_ok-names.ensures c.in_ok-axes.ensures in
+    let fine = open_of_program c.args.program.now c.tree.result.now c.tree.ensures.parts c.args.table.now c.as_slice.result.now c.in_ok-names.names c.in_ok-axes.axes.items c.as_slice.ensures (c.in_ok-names.ensures ∙ ap variables c.tree.ensures.parts) c.in_ok-axes.ensures in
     let told =
     shape_of_program c.args.program.now c.tree.result.now c.tree.ensures.parts c.as_slice-2.result.now c.in_ok-axes.axes.items (Ok c.in_ok-shape.shape) c.as_slice-2.ensures.value
     (c.in_ok-shape.ensures (λ e. cc e))
