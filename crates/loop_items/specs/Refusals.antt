@@ -43,7 +43,8 @@ product_refusal line None = None
 
 abbrev pub head_refusal : HeadLine → Sources → Option HeadRefusal
 head_refusal head sources =
-    or_else (first_refusal head.line (head_collected head sources)) (product_refusal head.line (excess_of (axis_lens head sources)))
+    or_else (first_refusal head.line (head_collected head sources))
+    (product_refusal head.line (excess_of (axis_lens head sources)))
 
 -- the first refusal of a program's first head over a table
 abbrev pub first_head_refusal : ProgramTree → Contents → Option HeadRefusal

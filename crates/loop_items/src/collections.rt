@@ -12,9 +12,9 @@ ghost use Rattle.loop_items.specs.Refusals.{collection_refusal, first_refusal, u
 ghost use Rattle.loop_items.specs.declared.refusal.HeadRefusal.TheVariants as refused;
 
 use crate::HeadRefusal;
-use crate::bounds::{number_of, step_number};
 use column_input::{Column, Table};
 use loop_data::{Axis, RangeExpr, TextValue, Value};
+use loop_meaning::bounds::{number_of, step_number};
 use loop_values::Env;
 use no_memory::NoMemory;
 use splittable::{Range, RangeRefusal, Splittable};

@@ -3,8 +3,7 @@
 ghost use Rattle.std.specs.Prelude.{◌≡◌, ◌+◌, ◌<◌, ◌≤◌, ◌^◌, [], true, IfOk, OnOk, length};
 ghost use Rattle.loop_grammar.specs.SkippedFaults.{skips_faults};
 ghost use Rattle.loop_meaning.specs.declared.runs.Run.{Run};
-ghost use Rattle.loop_meaning.specs.Chosen.{is_skipped, stop_at};
-ghost use Rattle.loop_meaning.specs.Runs.{no_run};
+ghost use Rattle.loop_meaning.specs.Runs.{is_skipped, no_run, stop_at};
 ghost use Rattle.loop_meaning.specs.Stores.{start_store};
 ghost use Rattle.reducer_tower.specs.Rows.{number_of};
 ghost use Rattle.number_ranges.specs.Ranges.{most_items};
