@@ -1,6 +1,6 @@
 ghost use Rattle.std.specs.Prelude.{◌≡◌, IfOk};
 
-use crate::{Boxed, CopyIn, Many, TextValue, Value};
+use crate::{Boxed, Many, TextValue, Value};
 use no_memory::NoMemory;
 use std::alloc::Global;
 
@@ -143,32 +143,4 @@ pub struct RangeExpr {
     pub first: Expr,
     pub step: Option<Expr>,
     pub last: Expr,
-}
-
-impl RangeExpr {
-    /// The same range once more. Refused only for want of memory.
-    pub fn copy(&self, alloc: Global) -> Result<RangeExpr, NoMemory>
-        ensures { IfOk result (λ r. r ≡ self.now) }
-    {
-        let first = self.first.copy(alloc)?;
-        let last = self.last.copy(alloc)?;
-        match &self.step {
-            None => Ok(RangeExpr {
-                first,
-                step: None,
-                last,
-            }),
-            Some(step) => Ok(RangeExpr {
-                first,
-                step: Some(step.copy(alloc)?),
-                last,
-            }),
-        }
-    }
-}
-
-impl CopyIn for Expr {
-    fn copy_in(&self, alloc: Global) -> Result<Expr, NoMemory> {
-        self.copy(alloc)
-    }
 }

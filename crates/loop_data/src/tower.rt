@@ -4,8 +4,8 @@ use crate::{Boxed, Expr};
 use no_memory::NoMemory;
 use std::alloc::Global;
 
-/// A kind of tower, which says what the inputs of a name are folded into.
-#[derive(Debug, PartialEq, Eq, Drop)]
+/// A kind of tower, which says what the inputs of a name are folded into. `{:?}` of it is its words.
+#[derive(PartialEq, Eq, Drop)]
 pub enum Kind {
     /// `sum`: the exact sum.
     Sum,
@@ -76,30 +76,4 @@ pub enum TowerExpr {
     Count,
     Grouped { key: Expr, inner: Boxed<TowerExpr> },
     Both(Boxed<TowerExpr>, Boxed<TowerExpr>),
-}
-
-impl TowerExpr {
-    /// The same once more. Refused only for want of memory.
-    pub fn copy(&self, alloc: Global) -> Result<TowerExpr, NoMemory>
-        ensures { IfOk result (λ t. t ≡ self.now) }
-    {
-        match self {
-            TowerExpr::Leaf { kind, expr } => {
-                let kind = kind.copy(alloc)?;
-                let expr = expr.copy(alloc)?;
-                Ok(TowerExpr::Leaf { kind, expr })
-            }
-            TowerExpr::Count => Ok(TowerExpr::Count),
-            TowerExpr::Grouped { key, inner } => {
-                let key = key.copy(alloc)?;
-                let inner = Boxed::new(alloc, inner.get().copy(alloc)?)?;
-                Ok(TowerExpr::Grouped { key, inner })
-            }
-            TowerExpr::Both(left, right) => {
-                let left = Boxed::new(alloc, left.get().copy(alloc)?)?;
-                let right = Boxed::new(alloc, right.get().copy(alloc)?)?;
-                Ok(TowerExpr::Both(left, right))
-            }
-        }
-    }
 }

@@ -197,9 +197,3 @@ impl CopyIn for Value {
         self.copy(alloc)
     }
 }
-
-impl CopyIn for ValueKind {
-    fn copy_in(&self, alloc: Global) -> Result<ValueKind, NoMemory> {
-        self.copy(alloc)
-    }
-}
