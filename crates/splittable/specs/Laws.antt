@@ -4,8 +4,10 @@ use Rattle.std.specs.Prelude.{◌≡◌, ◌≤◌, ◌<◌, ◌↔◌, ◌⊎�
 use Rattle.std.specs.List.{flat_map, AllByRecursion}
 use Rattle.number_ranges.specs.Ranges.{most_items}
 use Rattle.splittable.specs.Places.{item_count, first_excess}
-use Rattle.splittable.specs.Parts.{Stretch, part_places, whole_of, numbers_from, left_half, right_half, AreHalves, HoldsPlace, LiesIn, LiesInShape, AreNeighbours}
-use Rattle.splittable.specs.Nodes.{IsNodeAt, IsNode, IsLeaf, HasNodes, leaves_under, leaves_of, least_part_of, most_depth, most_leaves}
+use Rattle.splittable.specs.Parts.{Stretch, part_places, whole_of, numbers_from, left_half, right_half, AreHalves, HoldsPlace}
+use Rattle.splittable.specs.Parts.{LiesIn, LiesInShape, AreNeighbours}
+use Rattle.splittable.specs.Nodes.{IsNodeAt, IsNode, IsLeaf, HasNodes, leaves_under, leaves_of, least_part_of, most_depth}
+use Rattle.splittable.specs.Nodes.{most_leaves}
 
 -- ---- refused shapes
 

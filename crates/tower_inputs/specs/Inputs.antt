@@ -24,7 +24,8 @@ paired x r = and_then r (λ y. Ok (pair_of x y))
 
 -- one layer of a tower, given the inputs of its inner towers
 abbrev pub input_step : TowerExpr-F Meaning → Meaning
-input_step (t.Leaf kind x) env = and_then (value_of x env) (λ v. if with_place kind then paired v (bound (env place_name)) else Ok v)
+input_step (t.Leaf kind x) env =
+    and_then (value_of x env) (λ v. if with_place kind then paired v (bound (env place_name)) else Ok v)
 input_step t.Count env = Ok Nothing
 input_step (t.Grouped key inner) env = and_then (value_of key env) (λ k. paired k (inner env))
 input_step (t.Both left right) env = and_then (left env) (λ l. paired l (right env))
