@@ -22,4 +22,5 @@ AsOftenHoldsPlaces = (xs ys : List Stretch) → AreAsOften xs ys → (w : ℕ �
 
 -- and as many of each pass a test, so that the test of being one part counts that part
 abbrev pub AsOftenPassTests : Type 0
-AsOftenPassTests = (xs ys : List Stretch) → AreAsOften xs ys → (test : Stretch → Bool) → length (filter test xs) ≡ length (filter test ys)
+AsOftenPassTests = (xs ys : List Stretch) → AreAsOften xs ys → (test : Stretch → Bool) →
+    length (filter test xs) ≡ length (filter test ys)

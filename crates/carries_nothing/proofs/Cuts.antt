@@ -1,6 +1,6 @@
 -- The run of a legal loop over a list is the runs over the parts of any cut of it, each from the start.
-use Rattle.std.proofs.Common.{◌≡◌, ℕ, ◌+◌, Bool, true, false, List, [], ◌∷◌, ◌++◌, length, map, refl, ap, sym, ◌∙◌, subst}
-use Rattle.std.specs.Prelude.{if◌then◌else◌, Some}
+use Rattle.std.proofs.Common.{◌≡◌, ℕ, suc, ◌+◌, ◌-◌, ◌≤◌, Bool, true, false, List, [], ◌∷◌, ◌++◌, length, map, refl, ap, sym, ◌∙◌, subst, arith}
+use Rattle.std.specs.Prelude.{if◌then◌else◌, Some, slice_get}
 use Rattle.loop_data.specs.declared.value.Value.{Value}
 use Rattle.loop_grammar.specs.SkippedFaults.{skips_faults}
 use Rattle.loop_grammar.specs.declared.tree.ProgramTree.{ProgramTree}
@@ -19,8 +19,8 @@ use Rattle.loop_meaning.specs.Stops.{is_stop, leftmost_from, stops}
 use Rattle.loop_meaning.specs.Stores.{start_store}
 use Rattle.loop_meaning.proofs.RunLemmas.{two_lists}
 use Rattle.carries_nothing.specs.Alike.{Alike, IsReached, IsStore, at_start, one_more}
-use Rattle.carries_nothing.specs.Laws.{LegalCarriesNothing, PartsEndAsWhole, PartsLeaveAlike, ReachedIsAlike, ReachedRunsAsStart, ReachedStepsAsStart, RunsReachStores, StopsLeftmost}
-use Rattle.carries_nothing.specs.Parts.{GivesSame, SameRun, from_start}
+use Rattle.carries_nothing.specs.Laws.{LegalCarriesNothing, PartsEndAsWhole, PartsLeaveAlike, ReachedIsAlike, ReachedRunsAsStart, ReachedStepsAsStart, RunsReachStores, StopIsItsItems, StopsLeftmost}
+use Rattle.carries_nothing.specs.Parts.{GivesSame, SameRun, StopsAsItem, from_start}
 use Rattle.carries_nothing.proofs.KeptStores.{alike_agrees, start_is_store, step_alike, step_leaves_store}
 use Rattle.carries_nothing.specs.Blocks.{Agree}
 use Rattle.carries_nothing.proofs.SameSteps.{hidden, step_same}
@@ -141,6 +141,65 @@ module _ (program : ProgramTree) (legal : IsLegal program) where
       ∙ ap (λ e. if is_stop (skips_faults program) e then Some place else place_of rest.stop) done.end
       ∙ ap (λ z. if stops program x place then Some place else z) (stops_from xs (place + 1) step.store (step_as_start store x place like))
 
+  -- an item so many places on, over which alone the run stops so
+  record StopsOn (items : List Value) (from on : ℕ) (how : PlainStop) : Type 0 where
+    item : Value
+    is : slice_get items on ≡ Some item
+    stop : how ≡ (from_start program (item ∷ []) (from + on)).stop
+
+  abbrev Found : List Value → ℕ → ℕ → PlainStop → Type 0
+  Found items from place how = (on : ℕ) × (place ≡ from + on) × StopsOn items from on how
+
+  -- a step that stops, before whatever runs
+  same_stop : (skips : Bool) (e : BodyEnd) (s t : Step) (place : ℕ) (run other : Run) → is_stop skips e ≡ true →
+      (with_step skips e s place run).stop ≡ (with_step skips e t place other).stop
+  same_stop skips end.Next s t place run other h = absurd (cc h)
+  same_stop skips (end.Break line) s t place run other h = refl
+  same_stop true (end.Fault line kind) s t place run other h = absurd (cc h)
+  same_stop false (end.Fault line kind) s t place run other h = refl
+
+  later_stop : (skips : Bool) (e : BodyEnd) (s : Step) (place : ℕ) (rest : Run) → is_stop skips e ≡ false → (with_step skips e s place rest).stop ≡ rest.stop
+  later_stop skips end.Next s place rest h = refl
+  later_stop skips (end.Break line) s place rest h = absurd (cc h)
+  later_stop true (end.Fault line kind) s place rest h = refl
+  later_stop false (end.Fault line kind) s place rest h = absurd (cc h)
+
+  -- the first item stops, or a later one does
+  found_at : (x : Value) (xs : List Value) (from place : ℕ) (step : Step) (rest : Run) (b : Bool) → step.end ≡ (body_step program (start_store program) x from).end → stops program x from ≡ b →
+      (leftmost_from program xs (from + 1) ≡ Some place → Found xs (from + 1) place rest.stop) →
+      (if b then Some from else leftmost_from program xs (from + 1)) ≡ Some place →
+      Found (x ∷ xs) from place (with_step (skips_faults program) step.end step from rest).stop
+  found_at x xs from place step rest true same h further e =
+      let skips = skips_faults program in
+      let first = body_step program (start_store program) x from in
+      let alone = loop_run program first.store [] (from + 1) in
+      let none : from + 0 ≡ from = omega arith in
+      let here : from ≡ place = cc e in
+      let stopped : (with_step skips step.end step from rest).stop ≡ (with_step skips first.end first from alone).stop =
+      ap (λ (z : BodyEnd). (with_step skips z step from rest).stop) same ∙ same_stop skips first.end step first from rest alone h in
+      (0, sym here ∙ sym none, record { item = x; is = refl; stop = stopped ∙ ap (λ p. (from_start program (x ∷ []) p).stop) (sym none) })
+  found_at x xs from place step rest false same h further e =
+      let skips = skips_faults program in
+      let there = further e in
+      let over : (from + 1) + there.0 ≡ from + suc there.0 = omega arith in
+      let going : is_stop skips step.end ≡ false = ap (is_stop skips) same ∙ h in (
+        suc there.0,
+        there.1 ∙ over,
+        record {
+          item = there.2.item;
+          is = there.2.is;
+          stop = later_stop skips step.end step from rest going ∙ there.2.stop ∙ ap (λ p. (from_start program (there.2.item ∷ []) p).stop) over;
+        },
+      )
+
+  found : (items : List Value) (from place : ℕ) (store : Bindings) → AsStart store → leftmost_from program items from ≡ Some place → Found items from place (loop_run program store items from).stop
+  found [] from place store like e = absurd (cc e)
+  found (x ∷ xs) from place store like e =
+      let step = body_step program store x from in
+      let done = step_same program legal store (start_store program) x from (agrees store (start_store program) like start_as_start) in
+      found_at x xs from place step (loop_run program step.store xs (from + 1)) (stops program x from) done.end refl
+      (found xs (from + 1) place step.store (step_as_start store x from like)) e
+
 -- ---- a run leaves a store that is reached
 
 pub runs_reach_stores : RunsReachStores
@@ -190,3 +249,14 @@ reached_steps program legal store is item place =
 
 pub stops_leftmost : StopsLeftmost
 stops_leftmost program legal items place = stops_from program legal items place (start_store program) (start_as_start program legal)
+
+pub stop_is_its_items : StopIsItsItems
+stop_is_its_items program legal items from place e =
+    let there = found program legal items from place (start_store program) (start_as_start program legal) e in
+    let on : there.0 ≡ place - from = omega (arith, there.1) in
+    record {
+      item = there.2.item;
+      reached = omega (arith, there.1);
+      is = ap (slice_get items) (sym on) ∙ there.2.is;
+      stop = there.2.stop ∙ ap (λ p. (from_start program (there.2.item ∷ []) p).stop) (sym there.1);
+    }

@@ -17,11 +17,10 @@ use Rattle.legality_rules.specs.declared.scope.Sort.TheVariants.{Local}
 use Rattle.legality_rules.specs.Lines.{Branched, Entry, Form, Listed, Listing, assigned, bound, branch_listing, branches_in_turn, condition, in_turn, keep_line, let_line, one_entry, read, reduce_line, set_line, statement_listing, statement_step}
 use Rattle.legality_rules.specs.Lines as lines
 use Rattle.legality_rules.specs.Paths as paths
-use Rattle.legality_rules.specs.Paths.{Branching, Path, after, assigns, branch_paths, followed_by, is_reached, line_reads, paths_in_turn, paths_of_one, paths_step, reads_first, statement_paths}
+use Rattle.legality_rules.specs.Paths.{Branching, Path, after, assigned_on, assigns, branch_paths, followed_by, is_reached, line_reads, misses, paths_in_turn, paths_of_one, paths_step, reads_first, statement_paths}
 use Rattle.legality_rules.specs.Scopes.{Scope, found, is_in, kinds_in, sort_in, unwrapped}
 use Rattle.loop_meaning.specs.Assigned.{all_assigned, assigned_in, assigned_in_branch, assigned_in_branch_step, assigned_step}
-use Rattle.carries_nothing.specs.Blocks.{assigned_on, misses}
-use Rattle.carries_nothing.proofs.OpenPaths.{IsSome, first_joined, line_reaches, reached_after, reached_either, reached_in_turn, some_after, some_either, some_in_turn}
+use Rattle.legality_rules.proofs.OpenPaths.{IsSome, first_joined, line_reaches, reached_after, reached_either, reached_in_turn, some_after, some_either, some_in_turn}
 use Rattle.carries_nothing.proofs.SameNames.{first_false, second_false}
 use Rattle.carries_nothing.proofs.ScopeLemmas.{one_none, pattern_none, sort_none, sort_stays}
 

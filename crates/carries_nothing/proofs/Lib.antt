@@ -6,7 +6,6 @@ pub mod EntryNames
 pub mod KeptNames
 pub mod KeptStores
 pub mod LegalLemmas
-pub mod OpenPaths
 pub mod ReadNames
 pub mod SameBlocks
 pub mod SameNames

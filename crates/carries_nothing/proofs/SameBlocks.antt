@@ -22,13 +22,13 @@ use Rattle.tower_inputs.specs.Inputs.{input_of}
 use Rattle.tower_inputs.specs.Towers.{names_read_in_tower}
 use Rattle.legality_rules.specs.Scopes.{is_in}
 use Rattle.legality_rules.specs.Paths as paths
-use Rattle.legality_rules.specs.Paths.{Event, Path, Branching, after, assigns, followed_by, is_reached, line_reads, paths_in_turn, paths_of_one, paths_step, reads_first, statement_paths, branch_paths}
+use Rattle.legality_rules.specs.Paths.{Event, Path, Branching, after, assigned_on, assigns, followed_by, is_reached, line_reads, misses, paths_in_turn, paths_of_one, paths_step, reads_first, statement_paths, branch_paths}
 use Rattle.loop_meaning.specs.declared.steps.BodyRun.{BodyRun}
 use Rattle.loop_meaning.specs.declared.steps.Flow.{Flow}
 use Rattle.loop_meaning.specs.declared.steps.Flow.TheVariants.{Going, Continued, Broke, Faulted}
 use Rattle.loop_meaning.specs.Statements.{Action, Choice, branch_run, branch_step, emitting, ending, evaluating, first_true, in_turn, is_going, keeping_something, matching, naming, statement_run, statement_step, while_going, with_value}
-use Rattle.carries_nothing.specs.Blocks.{BlocksKeepAlike, Doubt, IsClear, IsDoubt, StandAlike, assigned_on, block_paths, left_in_doubt, misses}
-use Rattle.carries_nothing.proofs.OpenPaths.{IsSome, and_assoc, assigned_joined, first_joined, line_reaches, missed_after, missed_either, missed_in_turn, reached_after, reached_either, reached_in_turn, reads_assign_none, some_after, some_either, some_in_turn}
+use Rattle.carries_nothing.specs.Blocks.{BlocksKeepAlike, Doubt, IsClear, IsDoubt, StandAlike, block_paths, left_in_doubt}
+use Rattle.legality_rules.proofs.OpenPaths.{IsSome, and_assoc, assigned_joined, first_joined, line_reaches, missed_after, missed_either, missed_in_turn, reached_after, reached_either, reached_in_turn, reads_assign_none, some_after, some_either, some_in_turn}
 use Rattle.carries_nothing.proofs.SameNames.{IsSure, first_false, input_same, insert_agrees, pattern_agrees, second_false, set_same, value_same}
 
 -- what an action does, where the body run goes on, fits its paths

@@ -1,31 +1,13 @@
 -- What a block does from two body runs between which names may differ: the names that may still differ behind it are those that
 -- aren't surely written. Source: this project.
-use Rattle.std.specs.Prelude.{◌≡◌, ℕ, Bool, true, false, not, ◌&&◌, ◌||◌, List, [], ◌∷◌, map}
-use Rattle.std.specs.List.{list_any}
+use Rattle.std.specs.Prelude.{◌≡◌, ℕ, Bool, true, false, ◌&&◌, List, map}
 use Rattle.std.specs.FinMap.{get}
-use Rattle.std.specs.Str.{bytes_eq}
 use Rattle.loop_data.specs.declared.statement.Statement.{Statement}
 use Rattle.loop_values.specs.Bindings.{Bindings, place_name}
-use Rattle.legality_rules.specs.Paths.{Event, Path, assigns, is_reached, paths_in_turn, reads, statement_paths}
+use Rattle.legality_rules.specs.Paths.{Path, is_reached, misses, paths_in_turn, statement_paths}
 use Rattle.loop_meaning.specs.declared.steps.BodyRun.{BodyRun}
 use Rattle.loop_meaning.specs.declared.steps.Flow.TheVariants.{Going}
 use Rattle.loop_meaning.specs.Statements.{block_run}
-
--- ---- names that aren't surely written
-
--- whether the name is assigned on the way
-abbrev pub assigned_on : List ℕ → List Event → Bool
-assigned_on n [] = false
-assigned_on n (reads line m ∷ events) = assigned_on n events
-assigned_on n (assigns m ∷ events) = bytes_eq n m || assigned_on n events
-
--- whether the path goes on, and hasn't assigned the name
-abbrev pub misses_on : List ℕ → Path → Bool
-misses_on n path = path.goes_on && not (assigned_on n path.events)
-
--- whether some path goes on and hasn't assigned the name: where none does, the name is surely written
-abbrev pub misses : List ℕ → List Path → Bool
-misses n paths = list_any (misses_on n) paths
 
 -- ---- names that may differ
 

@@ -1,6 +1,6 @@
 -- What holds of legal loops. Each is the contract of a public function.
 -- Source: this project.
-use Rattle.std.specs.Prelude.{◌≡◌, ℕ, ◌+◌, true, false, not, ◌&&◌, ◌||◌, List, ◌++◌, length}
+use Rattle.std.specs.Prelude.{◌≡◌, ℕ, ◌+◌, true, false, not, ◌&&◌, ◌||◌, List, ◌++◌, length, Some}
 use Rattle.std.specs.Str.{bytes_eq}
 use Rattle.loop_data.specs.declared.value.Value.{Value}
 use Rattle.loop_grammar.specs.WellFormed.{is_name, is_well_formed}
@@ -18,7 +18,7 @@ use Rattle.loop_meaning.specs.Stops.{leftmost_from}
 use Rattle.loop_meaning.specs.Stores.{start_store}
 use Rattle.carries_nothing.specs.Alike.{Alike, IsReached, IsStore, SameStep, is_lasting, is_scratch, is_variable}
 use Rattle.carries_nothing.specs.Bodies.{KeptUnder, SameBody, SameRanges, is_unseen}
-use Rattle.carries_nothing.specs.Parts.{CarriesNothing, SameRun, from_start}
+use Rattle.carries_nothing.specs.Parts.{CarriesNothing, SameRun, StopsAsItem, from_start}
 use Rattle.carries_nothing.specs.Carriers.{running_sum, sometimes_written}
 
 -- From two stores that are alike, the step of an item at a place does the same in a legal loop.
@@ -115,6 +115,11 @@ ReachedStepsAsStart = (program : ProgramTree) → IsLegal program →
 abbrev pub StopsLeftmost : Type 0
 StopsLeftmost = (program : ProgramTree) → IsLegal program → (items : List Value) (place : ℕ) →
     place_of (from_start program items place).stop ≡ leftmost_from program items place
+
+-- It stops there as the run over the item at that place alone does: its end depends on that item and its place.
+abbrev pub StopIsItsItems : Type 0
+StopIsItsItems = (program : ProgramTree) → IsLegal program → (items : List Value) (from place : ℕ) →
+    leftmost_from program items from ≡ Some place → StopsAsItem program items from place
 
 -- The rule on scratches is needed: with one path on which a scratch that is read isn't written, a loop carries something.
 abbrev pub SometimesWrittenCarries : Type 0

@@ -1,7 +1,7 @@
 -- Runs that give the same, and what it is that a loop carries nothing: its run over a list gives what its runs over the parts of
 -- each cut give.
 -- Source: this project.
-use Rattle.std.specs.Prelude.{◌≡◌, ℕ, ◌+◌, List, ◌++◌, length}
+use Rattle.std.specs.Prelude.{◌≡◌, ◌≤◌, ℕ, ◌+◌, ◌-◌, List, [], ◌∷◌, ◌++◌, length, Some, slice_get}
 use Rattle.loop_data.specs.declared.value.Value.{Value}
 use Rattle.loop_grammar.specs.declared.tree.ProgramTree.{ProgramTree}
 use Rattle.loop_meaning.specs.declared.runs.Run.{Run}
@@ -25,8 +25,18 @@ abbrev pub from_start : ProgramTree → List Value → ℕ → Run
 from_start program items place = loop_run program (start_store program) items place
 
 -- The run over a list, with one store that lives on, gives what the run over its left part gives and, where that ran to its end,
--- then the run over its right part: each from the start, and from the place of its first item. What stores they leave isn't asked.
+-- then the run over its right part: each from the start, and from the place of its first item. What stores they leave isn't
+-- asked.
 abbrev pub CarriesNothing : ProgramTree → Type 0
 CarriesNothing program = (left right : List Value) (place : ℕ) →
     GivesSame (from_start program (left ++ right) place)
     (followed_by (from_start program left place) (from_start program right (place + length left)))
+
+-- The run from the start over a list, whose first item has the place `from`, stops at the item at this place as the run from the
+-- start over that item alone: at the same place, and in the same way, so that a break has the same line, and a fault the same
+-- line and kind.
+pub record StopsAsItem (program : ProgramTree) (items : List Value) (from place : ℕ) : Type 0 where
+  pub item : Value
+  pub reached : from ≤ place
+  pub is : slice_get items (place - from) ≡ Some item
+  pub stop : (from_start program items from).stop ≡ (from_start program (item ∷ []) place).stop

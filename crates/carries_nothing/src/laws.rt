@@ -1,7 +1,7 @@
 //! What holds of legal loops, for readers and for callers' proofs: each function is empty, and its contract is the law.
 
 ghost use Rattle.carries_nothing.specs.Blocks.{BlocksKeepAlike};
-ghost use Rattle.carries_nothing.specs.Laws.{BodiesAreSame, InnerItemsKeep, LastingNamesStay, LegalCarriesNothing, OthersAreUnseen, PartsEndAsWhole, PartsLeaveAlike, RangesAreSame, ReachedIsAlike, ReachedRunsAsStart, ReachedStepsAsStart, RunningSumCarries, RunningSumIsIllegal, RunsReachStores, SometimesWrittenCarries, SometimesWrittenIsIllegal, SpelledNamesLast, StartIsStore, StepsAreSame, StepsLeaveStores, StopsLeftmost};
+ghost use Rattle.carries_nothing.specs.Laws.{BodiesAreSame, InnerItemsKeep, LastingNamesStay, LegalCarriesNothing, OthersAreUnseen, PartsEndAsWhole, PartsLeaveAlike, RangesAreSame, ReachedIsAlike, ReachedRunsAsStart, ReachedStepsAsStart, RunningSumCarries, RunningSumIsIllegal, RunsReachStores, SometimesWrittenCarries, SometimesWrittenIsIllegal, SpelledNamesLast, StartIsStore, StepsAreSame, StepsLeaveStores, StopIsItsItems, StopsLeftmost};
 
 /// From two body runs that agree but for names that may differ, a block none of whose paths reaches a read of one of these does
 /// the same. Where it goes on, the names that may still differ are those that aren't surely written.
@@ -10,9 +10,9 @@ pub fn blocks_keep_runs_alike()
 {}
 
 /// The body of a legal loop does the same from names that agree but for unseen ones: those that are neither `place`, nor of the
-/// store, nor bound by a head, `let` or `@keep`, nor assigned (a reducer's is among these), and the scratches that some line assigns.
-/// So do the ranges of its inner heads. No step binds or assigns a name that lasts. Where a text spells the program, each item of
-/// an inner head leaves the names before it, but for unseen ones.
+/// store, nor bound by a head, `let` or `@keep`, nor assigned (a reducer's is among these), and the scratches that some line
+/// assigns. So do the ranges of its inner heads. No step binds or assigns a name that lasts. Where a text spells the program,
+/// each item of an inner head leaves the names before it, but for unseen ones.
 pub fn bodies_see_nothing_carried()
     ensures bodies { BodiesAreSame }
     ensures ranges { RangesAreSame }
@@ -49,8 +49,8 @@ pub fn legal_loop_carries_nothing()
     ensures end { PartsEndAsWhole }
 {}
 
-/// From a store that is reached each run leaves one. In a legal loop each of them is alike with the start; from it the loop runs as
-/// it does from the start, and the step of an item emits and ends so: what it does depends on the item and its place alone.
+/// From a store that is reached each run leaves one. In a legal loop each of them is alike with the start; from it the loop runs
+/// as it does from the start, and the step of an item emits and ends so: what it does depends on the item and its place alone.
 pub fn reached_stores_are_as_the_start()
     ensures reached { RunsReachStores }
     ensures alike { ReachedIsAlike }
@@ -58,9 +58,11 @@ pub fn reached_stores_are_as_the_start()
     ensures steps { ReachedStepsAsStart }
 {}
 
-/// A legal loop stops at the least place whose own step from the start stops it, and nowhere where there is none.
+/// A legal loop stops at the least place whose own step from the start stops it, and nowhere where there is none. It stops there
+/// as the run from the start over that item alone does: with the same line, and a fault with the same kind.
 pub fn leftmost_stop_decides()
-    ensures { StopsLeftmost }
+    ensures place { StopsLeftmost }
+    ensures stop { StopIsItsItems }
 {}
 
 /// The rule on scratches is needed: a loop with one path on which the scratch that is read isn't written gives another answer in

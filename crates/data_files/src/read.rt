@@ -13,7 +13,7 @@ use edge_io::{Files, ReadStop};
 use std::alloc::Global;
 
 /// The most bytes of a data file.
-const DATA_FILE_LIMIT: u64 = 67108864;
+pub(crate) const DATA_FILE_LIMIT: u64 = 67108864;
 
 /// Takes a file with these bytes into the table of the files before it.
 fn take_in(alloc: Global, table: &mut Table, bytes: &[u8]) -> Result<(), TableRefusal>

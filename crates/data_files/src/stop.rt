@@ -1,5 +1,6 @@
 //! Why data files are no table.
 
+use crate::read::DATA_FILE_LIMIT;
 use column_input::TableRefusal;
 use std::fmt;
 
@@ -43,9 +44,11 @@ impl fmt::Display for DataRefusal {
 
     fn fmt<W: fmt::Write>(&self, f: &mut fmt::Formatter<W>) -> fmt::Result {
         match *self {
-            DataRefusal::TooLong(DataFile::Only) => f.write_str("data file: over 67108864 bytes"),
+            DataRefusal::TooLong(DataFile::Only) => {
+                write!(f, "data file: over {DATA_FILE_LIMIT} bytes")
+            }
             DataRefusal::TooLong(DataFile::OneOf(file)) => {
-                write!(f, "data file {file}: over 67108864 bytes")
+                write!(f, "data file {file}: over {DATA_FILE_LIMIT} bytes")
             }
             DataRefusal::NoTable(DataFile::Only, why) => write!(f, "data: {why}"),
             DataRefusal::NoTable(DataFile::OneOf(file), why) => {

@@ -6,7 +6,7 @@ use Rattle.std.specs.Str.{bytes_eq}
 use Rattle.std.proofs.Math.Nat.{mul-le-mul_left}
 use Rattle.std.proofs.lemmas.List.{length-map}
 use Rattle.std.proofs.lemmas.Map.Views.{any-filter_same}
-use Rattle.splittable.specs.Ranges.{most_items}
+use Rattle.number_ranges.specs.Ranges.{most_items}
 use Rattle.loop_data.specs.declared.value.Value.{Value}
 use Rattle.loop_data.specs.declared.tower.Kind.{Kind}
 use Rattle.loop_grammar.specs.declared.tree.ProgramTree.{ProgramTree}

@@ -14,7 +14,8 @@ use Rattle.legality_rules.specs.declared.scope.Site.{Site}
 use Rattle.legality_rules.specs.Laws.{KeepsRules}
 use Rattle.legality_rules.specs.Lines.{Entry, Form, entries_of, reduce_line, reduced}
 use Rattle.legality_rules.specs.Offences.{IsLegal, spots_after, spots_of}
-use Rattle.legality_rules.specs.Rules.{Outline, Spot, differs_from_first, most_sites, outline_of, reducers_with_other_towers, rules, site_at, site_differs, sites_in, sites_of, sites_too_many}
+use Rattle.tower_inputs.specs.Inputs.{most_sites}
+use Rattle.legality_rules.specs.Rules.{Outline, Spot, differs_from_first, outline_of, reducers_with_other_towers, rules, site_at, site_differs, sites_in, sites_of, sites_too_many}
 use Rattle.legality_rules.specs.Scopes.{Scope, kinds_in}
 use Rattle.legality_rules.specs.Towers.{input_kinds, inputs_differ}
 use Rattle.legality_rules.proofs.RuleLemmas.{legal_keeps}

@@ -6,7 +6,7 @@ use Rattle.std.specs.List.{list_all, AllByRecursion}
 use Rattle.std.specs.FinMap.{empty, get, insert}
 use Rattle.std.proofs.lemmas.Bool.{and_from, and_parts}
 use Rattle.std.proofs.lemmas.Int.{ints}
-use Rattle.splittable.specs.Ranges.{most_items}
+use Rattle.number_ranges.specs.Ranges.{most_items}
 use Rattle.loop_data.specs.declared.value.Value.{Value}
 use Rattle.loop_data.specs.declared.value.Value.TheVariants.{Int}
 use Rattle.loop_data.specs.declared.value.Value.TheOpen.{Value-F as v}
@@ -45,8 +45,8 @@ use Rattle.fitting_inputs.proofs.StoreLemmas.{AreBound, IsBound, keeping_bound, 
 place_fits : (n : ℕ) → 1 ≤ n → n ≤ most_items → is_place_at (v.Int (pos n)) ≡ true
 place_fits n least most =
     let above : int_lt (pos 0) (pos n) ≡ true = grind (arith, ints) in
-    let within : int_lt (pos 4294967296) (pos n) ≡ false = grind (arith, ints) in
-    and_from (int_lt (pos 0) (pos n)) (not (int_lt (pos 4294967296) (pos n))) above (not_false (int_lt (pos 4294967296) (pos n)) within)
+    let within : int_lt (pos most_items) (pos n) ≡ false = grind (arith, ints) in
+    and_from (int_lt (pos 0) (pos n)) (not (int_lt (pos most_items) (pos n))) above (not_false (int_lt (pos most_items) (pos n)) within)
 
 -- the pairs of a step and of what follows it
 step_first : (test : Test) (skips : Bool) (e : BodyEnd) (step : Step) (place : ℕ) (rest : Run) → list_all test step.emitted ≡ true → list_all test rest.emitted ≡ true →

@@ -3,7 +3,7 @@
 use Rattle.std.specs.Prelude.{◌≡◌, ◌≤◌, ◌-◌, ◌*◌, ◌^◌, ℕ, true, List, drop, map, length, take, Option, Some}
 use Rattle.std.specs.List.{list_all, list_any, AllByRecursion}
 use Rattle.std.specs.Str.{bytes_eq}
-use Rattle.splittable.specs.Ranges.{most_items}
+use Rattle.number_ranges.specs.Ranges.{most_items}
 use Rattle.loop_data.specs.declared.value.Value.{Value}
 use Rattle.loop_data.specs.declared.value.ValueKind.{ValueKind}
 use Rattle.loop_data.specs.declared.expr.Expr.{Expr}
@@ -18,7 +18,7 @@ use Rattle.column_input.specs.Table.{Contents}
 use Rattle.legality_rules.specs.Cuts.{scope_after}
 use Rattle.legality_rules.specs.Lines.{entries_of, in_turn, statement_listing}
 use Rattle.legality_rules.specs.Offences.{IsLegal}
-use Rattle.legality_rules.specs.Rules.{most_sites}
+use Rattle.tower_inputs.specs.Inputs.{most_sites}
 use Rattle.legality_rules.specs.Scopes.{Scope, fits_pattern, item_kind}
 use Rattle.loop_meaning.specs.declared.steps.BodyRun.{BodyRun}
 use Rattle.loop_meaning.specs.declared.steps.Pair.{Pair}

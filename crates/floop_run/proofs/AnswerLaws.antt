@@ -7,7 +7,8 @@ use Rattle.program_words.specs.Requests.{Request}
 use Rattle.loop_syntax.proofs.TextLaws.{one_program, one_refusal, never_both, never_neither}
 use Rattle.loop_grammar.specs.RefusalTexts.{syntax_text}
 use Rattle.floop_run.specs.Requests.{request_in, loop_file}
-use Rattle.floop_run.specs.Answers.{Answer, refused, not_held, program_answer, loop_file_limit, IsTextAnswer, refused_text, read, IsFileAnswer, missing, too_long, within, IsRequestAnswer, no_request, asked, OneAnswer, SomeAnswer}
+use Rattle.loop_syntax.specs.Programs.{loop_file_limit}
+use Rattle.floop_run.specs.Answers.{Answer, refused, not_held, program_answer, IsTextAnswer, refused_text, read, IsFileAnswer, missing, too_long, within, IsRequestAnswer, no_request, asked, OneAnswer, SomeAnswer}
 
 one_text : (r : Request) (held : Held) (text : List ℕ) (a b : Answer) → IsTextAnswer r held text a → IsTextAnswer r held text b → a ≡ b
 one_text r held text a b (refused_text f) (refused_text g) = ap (λ why. refused (syntax_text why)) (one_refusal text _ _ f g)

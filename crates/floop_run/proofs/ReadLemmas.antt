@@ -11,7 +11,8 @@ use Rattle.floop_run.specs.declared.answer.OutputStop.{OutputStop}
 use Rattle.program_words.specs.Requests.{Request}
 use Rattle.floop_run.specs.Requests.{request_in, loop_file}
 use Rattle.floop_run.specs.Outputs.{answer_in}
-use Rattle.floop_run.specs.Answers.{Answer, refused, not_held, loop_file_limit, IsTextAnswer, IsFileAnswer, missing, too_long, within, IsRequestAnswer, no_request, asked, IsAnswer}
+use Rattle.loop_syntax.specs.Programs.{loop_file_limit}
+use Rattle.floop_run.specs.Answers.{Answer, refused, not_held, too_long_text, IsTextAnswer, IsFileAnswer, missing, too_long, within, IsRequestAnswer, no_request, asked, IsAnswer}
 
 -- what holds of each holds of what is there
 pub every : {A : Type 0} (o : Option A) (P : A → Type 0) → ((a : A) → P a) → IfSome o P
@@ -54,12 +55,12 @@ ok_read q h r t (Some bytes) now answer e hx x = ok_fit q h r t now bytes answer
 
 -- the file is too long
 long_fit : {T : Type 0} (q : Request) (h : Held) (r : Result T ReadStop) (before now bytes : List ℕ) (answer : Answer) (b : Bool) → nat_le (length bytes) loop_file_limit ≡ b → r ≡ Err stop.TooLong →
-    Reads (if b then Ok bytes else Err stop.TooLong) r before now → answer ≡ refused (codes "loop file: over 65536 bytes") → IsFileAnswer q h (Some bytes) answer
+    Reads (if b then Ok bytes else Err stop.TooLong) r before now → answer ≡ refused too_long_text → IsFileAnswer q h (Some bytes) answer
 long_fit q h r before now bytes answer true is e hx x = absurd (is_ok_err r stop.TooLong e hx.0)
 long_fit q h r before now bytes answer false is e hx x = subst (IsFileAnswer q h (Some bytes)) (sym x) (too_long (leb-false _ _ is))
 
 pub long_read : {T : Type 0} (q : Request) (h : Held) (r : Result T ReadStop) (file : Option (List ℕ)) (before now : List ℕ) (answer : Answer) → r ≡ Err stop.TooLong → Reads (read_answer file loop_file_limit) r before now →
-    answer ≡ refused (codes "loop file: over 65536 bytes") → IsFileAnswer q h file answer
+    answer ≡ refused too_long_text → IsFileAnswer q h file answer
 long_read q h r None before now answer e hx x = absurd (long_missing r e hx)
 long_read q h r (Some bytes) before now answer e hx x = long_fit q h r before now bytes answer _ refl e (by_fit r before now bytes _ refl hx) x
 
@@ -104,7 +105,7 @@ ok_file q held r t name file before now text e n b is reads = every_of held _ _ 
 
 -- the file is too long
 pub long_file : {T : Type 0} (q : Request) (held : Option Held) (r : Result T ReadStop) (name file before now : List ℕ) (answer : Answer) → r ≡ Err stop.TooLong → name ≡ file →
-    answer ≡ refused (codes "loop file: over 65536 bytes") → IfSome held (ReadsNamed r name before now) → IfSome held (λ h. IsFileAnswer q h (get h file) answer)
+    answer ≡ refused too_long_text → IfSome held (ReadsNamed r name before now) → IfSome held (λ h. IsFileAnswer q h (get h file) answer)
 long_file q held r name file before now answer e n is reads =
     every_of held _ _
     (λ h so. subst (λ f. IsFileAnswer q h (get h f) answer) n (long_read q h r (get h name) before now answer e (so (long_not_failed r e) (long_not_memory r e)) is))

@@ -1,7 +1,8 @@
 -- The answer of a call: its status and the text that it writes, from the words and what files hold. No thread,
 -- part or schedule is in it. Source: this project.
-use Rattle.std.specs.Prelude.{◌≡◌, ℕ, ◌<◌, ◌≤◌, List, [], length, codes, Option, Some, None, Result, Ok, Err}
+use Rattle.std.specs.Prelude.{◌≡◌, ℕ, ◌<◌, ◌≤◌, List, [], ◌++◌, length, codes, Option, Some, None, Result, Ok, Err}
 use Rattle.std.specs.FinMap.{get}
+use Rattle.std.specs.Fmt.{decimal}
 use Rattle.edge_io.specs.Reading.{Held}
 use Rattle.program_words.specs.declared.command.Command.{Command}
 use Rattle.program_words.specs.declared.command.Command.TheVariants as command
@@ -13,6 +14,7 @@ use Rattle.loop_grammar.specs.Texts.{SpellsProgram, FirstRefusal}
 use Rattle.legality_rules.specs.declared.refusal.Offence.{Offence}
 use Rattle.legality_rules.specs.Offences.{first_offence}
 use Rattle.legality_rules.specs.RefusalTexts.{offence_text}
+use Rattle.loop_syntax.specs.Programs.{loop_file_limit}
 use Rattle.column_input.specs.Table.{Contents}
 use Rattle.data_files.specs.declared.stop.DataStop.{DataStop}
 use Rattle.data_files.specs.declared.stop.DataStop.TheVariants as reading
@@ -47,9 +49,9 @@ not_held = record { status = status.ReadFault; text = [] }
 abbrev pub done : List ℕ → Answer
 done text = record { status = status.Done; text = text }
 
--- the most bytes of a loop file
-abbrev pub loop_file_limit : ℕ
-loop_file_limit = 65536
+-- what a loop file is called that is too long
+abbrev pub too_long_text : List ℕ
+too_long_text = codes "loop file: over " ++ decimal loop_file_limit ++ codes " bytes"
 
 -- ---- what runs
 
@@ -100,7 +102,7 @@ pub data IsTextAnswer : Request → Held → List ℕ → Answer → Type 0 wher
 pub data IsFileAnswer : Request → Held → Option (List ℕ) → Answer → Type 0 where
   missing : {request : Request} {held : Held} → IsFileAnswer request held None not_held
   too_long : {request : Request} {held : Held} {bytes : List ℕ} →
-      loop_file_limit < length bytes → IsFileAnswer request held (Some bytes) (refused (codes "loop file: over 65536 bytes"))
+      loop_file_limit < length bytes → IsFileAnswer request held (Some bytes) (refused too_long_text)
   within : {request : Request} {held : Held} {bytes : List ℕ} {answer : Answer} →
       length bytes ≤ loop_file_limit → IsTextAnswer request held bytes answer → IsFileAnswer request held (Some bytes) answer
 

@@ -5,11 +5,12 @@ ghost use Rattle.std.specs.FinMap.{get};
 ghost use Rattle.edge_io.specs.Faults.{Rose};
 ghost use Rattle.program_words.specs.Words.{texts};
 ghost use Rattle.program_words.specs.Views.{request_seen};
+ghost use Rattle.loop_syntax.specs.Programs.{loop_file_limit};
 ghost use Rattle.data_files.specs.Tables.{data_table};
 ghost use Rattle.loop_items.specs.Refusals.{first_head_refusal};
 ghost use Rattle.plain_path.specs.Paths.{AreHeadItems};
 ghost use Rattle.floop_run.specs.Requests.{request_in, loop_file, data_names};
-ghost use Rattle.floop_run.specs.Answers.{IsAnswer, IsFileAnswer, IsTextAnswer, program_answer, table_answer, head_answer, command_answer, not_held, loop_file_limit, refused};
+ghost use Rattle.floop_run.specs.Answers.{IsAnswer, IsFileAnswer, IsTextAnswer, program_answer, table_answer, head_answer, command_answer, not_held, refused, too_long_text};
 ghost use Rattle.floop_run.specs.TopCall.{IsAnswered};
 ghost use Rattle.floop_run.specs.Outputs.{answer_in};
 
@@ -22,13 +23,10 @@ use data_files::{DataStop, read_data};
 use edge_io::{Files, NoMemory, ReadStop};
 use legality_check::{LegalProgram, LegalRefusal, check_program};
 use loop_items::{HeadItems, HeadRefusal};
-use loop_syntax::{Program, SyntaxRefusal, read_program};
+use loop_syntax::{LOOP_FILE_LIMIT, Program, SyntaxRefusal, read_program};
 use program_words::{Call, Command, Request, request_of};
 use std::alloc::{AllocError, Global};
 use std::fmt::Display;
-
-/// The most bytes of a loop file.
-const LOOP_FILE_LIMIT: u64 = 65536;
 
 /// A status with the lines that go with it, each with its LF.
 #[derive(Drop)]
@@ -110,13 +108,22 @@ fn loop_output<F: Files>(
 {
     let name = loop_file(request);
     let mut bytes = Vec::new(alloc);
-    match files.read_named(alloc, name, LOOP_FILE_LIMIT, &mut bytes) {
+    match files.read_named(alloc, name, LOOP_FILE_LIMIT as u64, &mut bytes) {
         Ok(()) => text_output(alloc, request, &bytes, files),
-        Err(ReadStop::TooLong) => Ok(refusal(alloc, "loop file: over 65536 bytes")?),
+        Err(ReadStop::TooLong) => Ok(too_long(alloc)?),
         Err(ReadStop::NoMemory) => Err(OutputStop::NoMemory),
         Err(ReadStop::NotHeld) => Err(OutputStop::ReadFault),
         Err(ReadStop::Failed) => Err(OutputStop::ReadFault),
     }
+}
+
+/// The refusal of a loop file that is too long.
+fn too_long(alloc: Global) -> Result<Output, NoMemory>
+    ensures answer { IfOk result (λ o. answer_in o ≡ refused too_long_text) }
+    ensures answered { IfOk result (λ o. IsAnswered o.status) }
+{
+    let text = format!(in alloc; "loop file: over {LOOP_FILE_LIMIT} bytes")?;
+    refusal(alloc, text.as_str())
 }
 
 /// The refusal of what has a text.

@@ -16,7 +16,8 @@ MergeStands {S} stands merges = (first n m : ℕ) (left : S) (right whole : Redu
 
 -- what stopped or faulted stands for each longer stretch from the same place
 abbrev pub StopStands : {S : Type 0} → (ℕ → ℕ → Reduced S → Type 0) → Type 0
-StopStands {S} stands = (first n m : ℕ) (answer : Reduced S) → 1 ≤ first → IsStop answer → stands first n answer → stands first (n + m) answer
+StopStands {S} stands = (first n m : ℕ) (answer : Reduced S) → 1 ≤ first → IsStop answer → stands first n answer →
+    stands first (n + m) answer
 
 -- a stretch stops and faults at one of its own items
 abbrev pub StopLies : {S : Type 0} → (ℕ → ℕ → Reduced S → Type 0) → Type 0
@@ -24,7 +25,8 @@ StopLies {S} stands = (first n : ℕ) (answer : Reduced S) → 1 ≤ first → s
 
 -- all answers of one stretch have the same end
 abbrev pub EndsAlike : {S : Type 0} → (ℕ → ℕ → Reduced S → Type 0) → Type 0
-EndsAlike {S} stands = (first n : ℕ) (one other : Reduced S) → 1 ≤ first → stands first n one → stands first n other → SameEnd one other
+EndsAlike {S} stands = (first n : ℕ) (one other : Reduced S) → 1 ≤ first → stands first n one → stands first n other →
+    SameEnd one other
 
 -- the states may be merged: the left ran to its end over some stretch, and the right ran to its end or stopped right after it
 abbrev pub MayMergeParts : {S : Type 0} → (ℕ → ℕ → Reduced S → Type 0) → S → S → Type 0
@@ -37,4 +39,5 @@ MayCombine stands left right = (first : ℕ) × (n : ℕ) × (m : ℕ) × (1 ≤
 
 -- wherever the two answers stand for neighbouring stretches, the answer stands for both together
 abbrev pub CombinationStands : {S : Type 0} → (ℕ → ℕ → Reduced S → Type 0) → Reduced S → Reduced S → Reduced S → Type 0
-CombinationStands stands left right whole = (first n m : ℕ) → 1 ≤ first → stands first n left → stands (first + n) m right → stands first (n + m) whole
+CombinationStands stands left right whole = (first n m : ℕ) → 1 ≤ first → stands first n left → stands (first + n) m right →
+    stands first (n + m) whole

@@ -10,8 +10,8 @@ use Rattle.legality_rules.specs.declared.refusal.LegalRefusal.{LegalRefusal}
 use Rattle.legality_rules.specs.declared.refusal.LegalRefusal.TheVariants.{Illegal, NoMemory}
 use Rattle.legality_rules.specs.Offences.{IsFirstOffence, IsLegal, first_among, first_offence, offences_of}
 use Rattle.legality_rules.proofs.FirstLemmas.{first_is_found, found_is_first, none_is_empty}
-use Rattle.legality_passes.specs.Answers.{answer}
-use Rattle.legality_passes.specs.Programs.{Tried}
+use Rattle.legality_names.specs.Answers.{answer}
+use Rattle.legality_check.specs.Programs.{Tried}
 
 -- the answer of the passes, told a text that spells the program
 abbrev pub Tells : ProgramTree → Tried → Type 0

@@ -2,3 +2,4 @@ mod CheckLemmas
 pub mod FormedScopes
 mod InputLaws
 mod Shared
+mod Whole

@@ -5,6 +5,7 @@
 
 pub mod laws;
 mod program;
+mod tree;
 
 pub use legality_rules::{LegalRefusal, Offence};
 pub use program::{LegalProgram, check_program};

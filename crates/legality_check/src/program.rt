@@ -4,7 +4,7 @@ ghost use Rattle.std.specs.Prelude.{◌≡◌, ◌≢◌, ◌↔◌, Err, IfOk, 
 ghost use Rattle.legality_rules.specs.declared.refusal.Offence.{Offence};
 ghost use Rattle.legality_rules.specs.Offences.{IsFirstOffence, IsLegal};
 
-use legality_passes::check_tree;
+use crate::tree::check_tree;
 use legality_rules::LegalRefusal;
 use loop_syntax::Program;
 use std::alloc::Global;

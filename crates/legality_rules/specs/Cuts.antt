@@ -40,12 +40,15 @@ FirstAtEntry = (outline : Outline) (spot : Spot) → first_among (offences_at ou
 abbrev pub FirstOfTwo : Type 0
 FirstOfTwo = (outline : Outline) (before entries more : List Entry) →
     first_among (offences_after outline before (entries ++ more))
-    ≡ earlier_of (first_among (offences_after outline before entries)) (first_among (offences_after outline (before ++ entries) more))
+    ≡ earlier_of (first_among (offences_after outline before entries))
+    (first_among (offences_after outline (before ++ entries) more))
 
 -- an offence that no later one precedes is the first, whatever follows
 abbrev pub FirstEndsCheck : Type 0
-FirstEndsCheck = (o : Offence) (later : List Offence) → list_all (λ p. not (precedes p o)) later ≡ true → earlier_of (Some o) (first_among later) ≡ Some o
+FirstEndsCheck = (o : Offence) (later : List Offence) → list_all (λ p. not (precedes p o)) later ≡ true →
+    earlier_of (Some o) (first_among later) ≡ Some o
 
 -- the entries of two stretches of a program
 abbrev pub EntriesOfTwo : Type 0
-EntriesOfTwo = (listings more : List Listing) (scope : Scope) → in_turn (listings ++ more) scope ≡ in_turn listings scope ++ in_turn more (scope_after listings scope)
+EntriesOfTwo = (listings more : List Listing) (scope : Scope) →
+    in_turn (listings ++ more) scope ≡ in_turn listings scope ++ in_turn more (scope_after listings scope)

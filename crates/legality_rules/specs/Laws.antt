@@ -26,12 +26,14 @@ KeepsRules outline some spot = AllByRecursion (λ rule. rule.1 outline spot ≡ 
 
 -- a program is legal exactly where no entry of it breaks a rule
 abbrev pub LegalBreaksNone : Type 0
-LegalBreaksNone = (program : ProgramTree) → IsLegal program ↔ AllByRecursion (KeepsRules (outline_of program) rules) (spots_of program)
+LegalBreaksNone = (program : ProgramTree) →
+    IsLegal program ↔ AllByRecursion (KeepsRules (outline_of program) rules) (spots_of program)
 
 -- in a legal program each expression has a kind under the kinds of the names in scope, and all that stands on a line keeps to
 -- the kinds
 abbrev pub LegalKeepsKinds : Type 0
-LegalKeepsKinds = (program : ProgramTree) → IsLegal program → AllByRecursion (λ spot. keeps_kinds spot spot.here.says ≡ true) (spots_of program)
+LegalKeepsKinds = (program : ProgramTree) → IsLegal program →
+    AllByRecursion (λ spot. keeps_kinds spot spot.here.says ≡ true) (spots_of program)
 
 -- a legal program prints reducers alone
 abbrev pub LegalPrintsReducers : Type 0

@@ -124,7 +124,8 @@ in_turn (listing ∷ more) scope = let here : Listed = listing scope in here.ent
 
 -- one entry, and the names that it binds, which are in scope after it
 abbrev pub one_entry : ℕ → List ℕ → Form → Scope → Listing
-one_entry line called says binds scope = record { entries = record { line = line; called = called; scope = scope; says = says } ∷ []; scope = scope ++ binds }
+one_entry line called says binds scope =
+    record { entries = record { line = line; called = called; scope = scope; says = says } ∷ []; scope = scope ++ binds }
 
 -- a condition with its block, told the word before it
 abbrev pub Branched : Type 0
@@ -151,7 +152,8 @@ statement_step (s.Set line n x) scope = one_entry line n (set_line n x) [] scope
 statement_step (s.If line branches else_line other end_line) scope =
     record { entries = branches_in_turn (codes "if") branches scope ++ in_turn other scope; scope = scope }
 statement_step (s.Keep line n x) scope =
-    one_entry line n (keep_line n x) (known_as Local n (option_and_then unwrapped (found (kind_of x (kinds_in scope)))) ∷ []) scope
+    one_entry line n (keep_line n x)
+    (known_as Local n (option_and_then unwrapped (found (kind_of x (kinds_in scope)))) ∷ []) scope
 statement_step (s.Reduce line n tower start) scope = one_entry line n (reduce_line n tower start) [] scope
 statement_step (s.Continue line) scope = record { entries = []; scope = scope }
 statement_step (s.Break line) scope = record { entries = []; scope = scope }
@@ -172,11 +174,13 @@ init_listing b = one_entry b.line b.name (init_line b.name b.value) (known_as Sc
 -- the first head, whose items the pattern takes
 abbrev pub head_listing : HeadLine → Listing
 head_listing h =
-    one_entry h.line (first_name h.names) (first_head h.names h.axes h.product) (pattern_known LoopVariable h.names (item_kind h.product h.axes))
+    one_entry h.line (first_name h.names) (first_head h.names h.axes h.product)
+    (pattern_known LoopVariable h.names (item_kind h.product h.axes))
 
 -- an inner head, whose items are Int
 abbrev pub inner_listing : HeadLine → Inner → Listing
-inner_listing h i = one_entry h.line (first_name h.names) (inner_head i.name i.range) (known_as LoopVariable i.name (Some kind.Int) ∷ [])
+inner_listing h i =
+    one_entry h.line (first_name h.names) (inner_head i.name i.range) (known_as LoopVariable i.name (Some kind.Int) ∷ [])
 
 abbrev pub print_listing : PrintLine → Listing
 print_listing p = one_entry p.line (codes "print") (print_line p.name) []

@@ -86,3 +86,19 @@ reads_first line n (assigns m ∷ events) = not (bytes_eq n m) && reads_first li
 -- whether some path does
 abbrev pub is_reached : List Path → ℕ → List ℕ → Bool
 is_reached paths line n = list_any (λ path. reads_first line n path.events) paths
+
+-- ---- names that aren't surely written
+
+-- whether the name is assigned on the way
+abbrev pub assigned_on : List ℕ → List Event → Bool
+assigned_on n [] = false
+assigned_on n (reads line m ∷ events) = assigned_on n events
+assigned_on n (assigns m ∷ events) = bytes_eq n m || assigned_on n events
+
+-- whether the path goes on, and hasn't assigned the name
+abbrev pub misses_on : List ℕ → Path → Bool
+misses_on n path = path.goes_on && not (assigned_on n path.events)
+
+-- whether some path goes on and hasn't assigned the name: where none does, the name is surely written
+abbrev pub misses : List ℕ → List Path → Bool
+misses n paths = list_any (misses_on n) paths

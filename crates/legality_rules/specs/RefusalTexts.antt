@@ -2,6 +2,7 @@
 -- Source: this project's language.
 use Rattle.std.specs.Prelude.{ℕ, ◌==◌, nat_lt, List, [], ◌++◌, if◌then◌else◌, codes}
 use Rattle.std.specs.Fmt.{decimal}
+use Rattle.tower_inputs.specs.Inputs.{most_sites}
 use Rattle.legality_rules.specs.declared.refusal.Offence.{Offence}
 use Rattle.legality_rules.specs.declared.refusal.LegalRefusal.{LegalRefusal}
 use Rattle.legality_rules.specs.declared.refusal.LegalRefusal.TheVariants as refusal
@@ -18,7 +19,7 @@ words_before number =
     else if number == 7 then codes "type differs at "
     else if number == 8 then codes "start not allowed for "
     else if number == 9 then codes "head not splittable"
-    else codes "over 64 reduce lines"
+    else codes "over " ++ decimal most_sites ++ codes " reduce lines"
 
 -- the rules 9 and 10 leave the name out
 abbrev pub name_told : ℕ → List ℕ → List ℕ
@@ -34,7 +35,8 @@ words_after number =
 
 -- an offence with its line
 abbrev pub offence_text : Offence → List ℕ
-offence_text o = codes "line " ++ decimal o.line ++ codes ": " ++ words_before o.number ++ name_told o.number o.name ++ words_after o.number
+offence_text o =
+    codes "line " ++ decimal o.line ++ codes ": " ++ words_before o.number ++ name_told o.number o.name ++ words_after o.number
 
 -- what a refusal is called
 abbrev pub legal_text : LegalRefusal → List ℕ

@@ -7,7 +7,8 @@ use Rattle.legality_rules.specs.Scopes.{Scope}
 use Rattle.loop_data.specs.declared.statement.Branch.{Branch}
 use Rattle.loop_grammar.specs.declared.tree.ProgramTree.{ProgramTree}
 use Rattle.loop_grammar.specs.Texts.{SpellsProgram}
-use Rattle.legality_rules.specs.Lines.{Entry, Listing, Listed, in_turn, var_listing, head_listing, inner_listing, init_listing, statement_listing, branch_listing, print_listing, condition}
+use Rattle.legality_rules.specs.Lines.{Entry, Listing, Listed, in_turn, var_listing, head_listing, inner_listing, init_listing}
+use Rattle.legality_rules.specs.Lines.{statement_listing, branch_listing, print_listing, condition}
 use Rattle.legality_rules.specs.Rules.{Outline, rules}
 use Rattle.legality_rules.specs.Offences.{first_among, offences_after}
 use Rattle.legality_rules.specs.Cuts.{or_else, first_broken, scope_after}
@@ -48,20 +49,25 @@ lines_in_turn p =
 
 -- the lines of a program rise
 abbrev pub LinesRise : Type 0
-LinesRise = (text : List ℕ) (program : ProgramTree) → SpellsProgram text program → (end : ℕ) × PartsRise 1 end (lines_in_turn program) []
+LinesRise = (text : List ℕ) (program : ProgramTree) → SpellsProgram text program →
+    (end : ℕ) × PartsRise 1 end (lines_in_turn program) []
 
 -- where one stretch of entries stands above another, an offence in the first comes before all of the second
 abbrev pub FirstOfRising : Type 0
 FirstOfRising = (outline : Outline) (before entries more : List Entry) (n m k : ℕ) → Within n m entries → Within m k more →
     first_among (offences_after outline before (entries ++ more))
-    ≡ or_else (first_among (offences_after outline before entries)) (first_among (offences_after outline (before ++ entries) more))
+    ≡ or_else (first_among (offences_after outline before entries))
+    (first_among (offences_after outline (before ++ entries) more))
 
 -- the first offence of parts that rise is that of the first part, or else of the others, under the names in scope after it
 abbrev pub FirstOfParts : Type 0
-FirstOfParts = (outline : Outline) (before : List Entry) (n m : ℕ) (listing : Listing) (more : List Listing) (scope : Scope) → PartsRise n m (listing ∷ more) scope →
+FirstOfParts =
+    (outline : Outline) (before : List Entry) (n m : ℕ) (listing : Listing) (more : List Listing) (scope : Scope) →
+    PartsRise n m (listing ∷ more) scope →
     let here : Listed = listing scope in
     first_among (offences_after outline before (in_turn (listing ∷ more) scope))
-    ≡ or_else (first_among (offences_after outline before here.entries)) (first_among (offences_after outline (before ++ here.entries) (in_turn more here.scope)))
+    ≡ or_else (first_among (offences_after outline before here.entries))
+    (first_among (offences_after outline (before ++ here.entries) (in_turn more here.scope)))
 
 -- the entry of a condition
 abbrev pub condition_entry : Branch → List ℕ → Scope → Entry
@@ -72,7 +78,8 @@ block_entries b scope = in_turn (map statement_listing b.block) scope
 
 -- the first offence of a branch and of what follows it: that of its condition, or else of its block, or else of the others
 abbrev pub FirstOfBranch : Type 0
-FirstOfBranch = (outline : Outline) (before : List Entry) (k m : ℕ) (b : Branch) (word : List ℕ) (scope : Scope) (others : List Entry) →
+FirstOfBranch =
+    (outline : Outline) (before : List Entry) (k m : ℕ) (b : Branch) (word : List ℕ) (scope : Scope) (others : List Entry) →
     b.line < k → Within (b.line + 1) k (block_entries b scope) → Within k m others →
     let test : Entry = condition_entry b word scope in
     first_among (offences_after outline before (branch_listing b word scope ++ others))

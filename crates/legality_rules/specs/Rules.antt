@@ -1,6 +1,7 @@
 -- The ten rules of a legal loop: for each, the names at which an entry of a program breaks it, from left to right.
 -- Source: this project's language.
-use Rattle.std.specs.Prelude.{ℕ, ◌==◌, Bool, true, false, not, ◌&&◌, ◌||◌, if◌then◌else◌, List, [], ◌∷◌, ◌++◌, map, length, filter, flat_map, codes, Option, Some, None, Ok, Err}
+use Rattle.std.specs.Prelude.{ℕ, ◌==◌, Bool, true, false, not, ◌&&◌, ◌||◌, if◌then◌else◌, List, [], ◌∷◌, ◌++◌, map, length}
+use Rattle.std.specs.Prelude.{filter, flat_map, codes, Option, Some, None, Ok, Err}
 use Rattle.std.specs.List.{list_all}
 use Rattle.std.specs.Str.{bytes_eq}
 use Rattle.loop_data.specs.declared.value.Value.{Value}
@@ -12,11 +13,15 @@ use Rattle.loop_grammar.specs.declared.tree.ProgramTree.{ProgramTree}
 use Rattle.loop_values.specs.Kinds.{Kinded, is_int, is_bool, is_maybe, same_kind, kind_of, literal_kind}
 use Rattle.legality_rules.specs.declared.scope.Sort.{Sort}
 use Rattle.legality_rules.specs.declared.scope.Site.{Site}
-use Rattle.legality_rules.specs.Scopes.{Scope, is_in, is_known, sort_in, is_variable, is_loop_variable, is_scratch, kinds_in, fits_pattern, item_kind}
+use Rattle.legality_rules.specs.Scopes.{Scope, is_in, is_known, sort_in, is_variable, is_loop_variable, is_scratch, kinds_in}
+use Rattle.legality_rules.specs.Scopes.{fits_pattern, item_kind}
+use Rattle.tower_inputs.specs.Inputs.{most_sites}
 use Rattle.tower_inputs.specs.Towers.{kind_of_tower, same_tower}
 use Rattle.tower_inputs.specs.InputKinds.{same_kinds}
 use Rattle.legality_rules.specs.Towers.{takes_start, Inputs, input_kinds, inputs_differ}
-use Rattle.legality_rules.specs.Lines.{Form, Entry, first_head, inner_head, let_line, set_line, condition, keep_line, reduce_line, bound, read, assigned, reduced, printed, range_bounds, axis_bounds, entries_of}
+use Rattle.legality_rules.specs.Lines.{Form, Entry, first_head, inner_head, let_line, set_line, condition, keep_line}
+use Rattle.legality_rules.specs.Lines.{reduce_line, bound, read, assigned, reduced, printed, range_bounds, axis_bounds}
+use Rattle.legality_rules.specs.Lines.{entries_of}
 use Rattle.legality_rules.specs.Paths.{Path, is_reached, paths_of}
 
 -- what the rules look at: the entries of all lines, and the paths of a body run
@@ -87,7 +92,8 @@ carried_variables outline spot = filter (λ n. is_variable (sort_at spot n)) (as
 -- scratch before it
 abbrev pub carried_scratches : Rule
 carried_scratches outline spot =
-    filter (λ n. is_scratch (sort_at spot n) && is_assigned outline n && is_reached outline.paths spot.here.line n) (read spot.here.says)
+    filter (λ n. is_scratch (sort_at spot n) && is_assigned outline n && is_reached outline.paths spot.here.line n)
+    (read spot.here.says)
 
 -- 5: it reads a reducer in an expression, or assigns it
 abbrev pub reducers_used : Rule
@@ -97,7 +103,8 @@ reducers_used outline spot = filter (is_reducer outline) (used spot.here.says)
 
 -- the name, the kind of the tower and the kinds of the inputs of an `@reduce` line
 abbrev pub site_at : Scope → Form → List Site
-site_at scope (reduce_line n tower start) = record { name = n; tower = kind_of_tower tower; inputs = input_kinds tower (kinds_in scope) } ∷ []
+site_at scope (reduce_line n tower start) =
+    record { name = n; tower = kind_of_tower tower; inputs = input_kinds tower (kinds_in scope) } ∷ []
 site_at scope _ = []
 
 -- the `@reduce` lines among these
@@ -119,7 +126,8 @@ differs_from_first site (first ∷ _) = site_differs site first
 -- 6: it has another tower, or other input kinds, than the first `@reduce` line of its name
 abbrev pub reducers_with_other_towers : Rule
 reducers_with_other_towers outline spot =
-    map (λ site. site.name) (filter (λ site. differs_from_first site (sites_of site.name spot.earlier)) (site_at spot.here.scope spot.here.says))
+    map (λ site. site.name)
+    (filter (λ site. differs_from_first site (sites_of site.name spot.earlier)) (site_at spot.here.scope spot.here.says))
 
 -- ---- start values
 
@@ -171,13 +179,15 @@ allowed (Some start) may = if may then Some start else None
 -- whether what an entry says keeps to the kinds: bounds are Int and the pattern takes the items; an assigned value has the
 -- name's kind; a condition is Bool; a kept value is Maybe; inputs and the start value are such as the tower takes
 abbrev pub keeps_kinds : Spot → Form → Bool
-keeps_kinds spot (first_head names axes product) = list_all (has_kind spot is_int) (flat_map axis_bounds axes) && items_fit names (item_kind product axes)
+keeps_kinds spot (first_head names axes product) =
+    list_all (has_kind spot is_int) (flat_map axis_bounds axes) && items_fit names (item_kind product axes)
 keeps_kinds spot (inner_head n range) = list_all (has_kind spot is_int) (range_bounds range)
 keeps_kinds spot (let_line names x) = has_kind spot (fits_pattern names) x
 keeps_kinds spot (set_line n x) = has_kind spot (is_of (kinds_in spot.here.scope n)) x
 keeps_kinds spot (condition x) = has_kind spot is_bool x
 keeps_kinds spot (keep_line n x) = has_kind spot is_maybe x
-keeps_kinds spot (reduce_line n tower start) = inputs_fit (allowed start (may_start spot n tower)) (input_kinds tower (kinds_in spot.here.scope))
+keeps_kinds spot (reduce_line n tower start) =
+    inputs_fit (allowed start (may_start spot n tower)) (input_kinds tower (kinds_in spot.here.scope))
 keeps_kinds spot _ = true
 
 -- 7: an expression, pattern, condition, bound, input or start value has a wrong kind. An expression with an unknown name or a
@@ -203,10 +213,6 @@ first_bounds _ = []
 -- 9: a bound of a range in the first head is neither a literal nor an outer variable; the name is `for`
 abbrev pub heads_not_splittable : Rule
 heads_not_splittable outline spot = if list_all (is_splittable spot) (first_bounds spot.here.says) then [] else codes "for" ∷ []
-
--- the most `@reduce` lines
-abbrev pub most_sites : ℕ
-most_sites = 64
 
 -- 10: it is the 65th `@reduce` line
 abbrev pub sites_too_many : Rule

@@ -1,6 +1,7 @@
 -- Names in scope: what each is, and which kind it has.
 -- Source: this project's language.
-use Rattle.std.specs.Prelude.{ℕ, ◌==◌, Bool, true, false, if◌then◌else◌, List, [], ◌∷◌, length, map, find, Option, Some, None, is_some, Ok, Err}
+use Rattle.std.specs.Prelude.{ℕ, ◌==◌, Bool, true, false, if◌then◌else◌, List, [], ◌∷◌, length, map, find, Option, Some, None}
+use Rattle.std.specs.Prelude.{is_some, Ok, Err}
 use Rattle.std.specs.List.{list_any}
 use Rattle.std.specs.Str.{bytes_eq}
 use Rattle.std.specs.Option.{option_and_then}

@@ -1,7 +1,8 @@
 //! What holds of the definitions, for readers and for callers' proofs: each function is empty, and its contract is the law.
 
 ghost use Rattle.legality_rules.specs.Cuts.{EntriesOfTwo, FirstAtEntry, FirstEndsCheck, FirstOfTwo};
-ghost use Rattle.legality_rules.specs.Laws.{FirstIsFirst, LegalBreaksNone, LegalHasNone, LegalKeepsKinds, LegalPrintsReducers, OneFirst};
+ghost use Rattle.legality_rules.specs.Laws.{FirstIsFirst, LegalBreaksNone, LegalHasNone, LegalKeepsKinds, LegalPrintsReducers};
+ghost use Rattle.legality_rules.specs.Laws.{OneFirst};
 ghost use Rattle.legality_rules.specs.Rising.{FirstOfBranch, FirstOfParts, FirstOfRising, LinesRise};
 
 /// The first offence is that of the least line that breaks a rule, the least number there, and the leftmost name.

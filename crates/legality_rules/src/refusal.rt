@@ -1,12 +1,13 @@
 //! Why a program isn't legal.
 
 ghost use Rattle.std.specs.Prelude.{◌≡◌};
-ghost use Rattle.legality_rules.specs.RefusalTexts.{words_after, words_before};
+ghost use Rattle.legality_rules.specs.RefusalTexts.{words_after};
 
 use loop_data::TextValue;
 use no_memory::NoMemory;
 use std::alloc::{AllocError, AllocFailed};
 use std::fmt;
+use tower_inputs::MOST_SITES;
 
 /// A line breaks the rule of this number, from 1 to 10, at this name. Lines are counted from 1.
 #[derive(Debug, PartialEq, Eq, Drop)]
@@ -26,20 +27,30 @@ pub enum LegalRefusal {
 }
 
 /// What an offence against the rule of this number is called, up to its name.
-fn words_before(number: u32) -> &'static str
-    ensures { result.now ≡ words_before number }
-{
-    match number {
-        1 => "unknown name ",
-        2 => "name ",
-        3 => "carried variable ",
-        4 => "carried scratch ",
-        5 => "reducer ",
-        6 => "reducer ",
-        7 => "type differs at ",
-        8 => "start not allowed for ",
-        9 => "head not splittable",
-        _ => "over 64 reduce lines",
+#[derive(Clone, Copy)]
+struct WordsBefore {
+    number: u32,
+}
+
+impl fmt::Display for WordsBefore {
+    ghost use Rattle.std.specs.Prelude.{Some};
+    ghost use Rattle.legality_rules.specs.RefusalTexts.{words_before};
+
+    ghost output = { λ w. Some (words_before w.number) };
+
+    fn fmt<W: fmt::Write>(&self, f: &mut fmt::Formatter<W>) -> fmt::Result {
+        match self.number {
+            1 => f.write_str("unknown name "),
+            2 => f.write_str("name "),
+            3 => f.write_str("carried variable "),
+            4 => f.write_str("carried scratch "),
+            5 => f.write_str("reducer "),
+            6 => f.write_str("reducer "),
+            7 => f.write_str("type differs at "),
+            8 => f.write_str("start not allowed for "),
+            9 => f.write_str("head not splittable"),
+            _ => write!(f, "over {MOST_SITES} reduce lines"),
+        }
     }
 }
 
@@ -63,7 +74,8 @@ impl fmt::Display for Offence {
     ghost output = { λ o. Some (offence_text o) };
 
     fn fmt<W: fmt::Write>(&self, f: &mut fmt::Formatter<W>) -> fmt::Result {
-        write!(f, "line {}: {}", self.line, words_before(self.number))?;
+        let number = self.number;
+        write!(f, "line {}: {}", self.line, WordsBefore { number })?;
         if self.number < 9 {
             f.write_str(self.name.as_str())?;
         }

@@ -1,9 +1,11 @@
 -- The order of values: any two are in order, and only equal ones tie.
 use Rattle.std.proofs.Common.{◌≡◌, ℕ, Bool, true, false, List, [], ◌∷◌, map, refl, ap, sym, ◌∙◌, subst, rules, ℤ}
-use Rattle.std.specs.Ordering.{is_eq, is_lt, ordering_then, ordering_reverse, nat_cmp, int_cmp, bool_cmp, eq_by_cmp, as_partial_cmp}
+use Rattle.std.specs.Ordering.{is_eq, is_lt, ordering_then, ordering_reverse, nat_cmp, int_cmp, bool_cmp, eq_by_cmp}
+use Rattle.std.specs.Ordering.{as_partial_cmp}
 use Rattle.std.specs.declared.cmp.Ordering.{Ordering}
 use Rattle.std.specs.declared.cmp.Ordering.TheVariants.{Less, Equal, Greater}
-use Rattle.std.specs.Cmp.{IsTotalOrder, IsEquivalence, IsPartialEquivalence, IsPartialOrder, bool_cmp_total, eq_by_cmp_equiv, partial_equiv_from_equiv, partial_order_from_total}
+use Rattle.std.specs.Cmp.{IsTotalOrder, IsEquivalence, IsPartialEquivalence, IsPartialOrder, bool_cmp_total, eq_by_cmp_equiv}
+use Rattle.std.specs.Cmp.{partial_equiv_from_equiv, partial_order_from_total}
 use Rattle.std.specs.Cmp.Lexicographic.{slice_cmp}
 use Rattle.std.specs.FinMap.{int_cmp-IsAntisymmetric, nat_cmp-IsAntisymmetric, slice_cmp-IsAntisymmetric}
 use Rattle.std.proofs.lemmas.Cmp.{int_cmp_total, nat_list_cmp_total}
@@ -70,14 +72,16 @@ Reversed = (a : Value) × IsReversed a
 abbrev of_reversed : Reversed → Value
 of_reversed t = t.0
 
-all_reversed : (ts : List Reversed) (ys : List Value) → parts_cmp (map of_reversed ts) ys ≡ ordering_reverse (parts_cmp ys (map of_reversed ts))
+all_reversed : (ts : List Reversed) (ys : List Value) →
+    parts_cmp (map of_reversed ts) ys ≡ ordering_reverse (parts_cmp ys (map of_reversed ts))
 all_reversed [] [] = refl
 all_reversed [] (y ∷ ys) = refl
 all_reversed (t ∷ ts) [] = refl
 all_reversed (t ∷ ts) (y ∷ ys) =
     (λ i. ordering_then (t.1 y i) (all_reversed ts ys i)) ∙ then_reversed (value_cmp y t.0) (parts_cmp ys (map of_reversed ts))
 
-layer_reversed : (x : Value-F Reversed) (y : Value-F Value) → layer (map-Value Reversed Value of_reversed x) y ≡ ordering_reverse (layer y (map-Value Reversed Value of_reversed x))
+layer_reversed : (x : Value-F Reversed) (y : Value-F Value) →
+    layer (map-Value Reversed Value of_reversed x) y ≡ ordering_reverse (layer y (map-Value Reversed Value of_reversed x))
 layer_reversed (v.Int a) (v.Int b) = int_cmp_total.antisymm a b
 layer_reversed (v.Text a) (v.Text b) = nat_list_cmp_total.antisymm a b
 layer_reversed (v.Bool a) (v.Bool b) = bool_cmp_total.antisymm a b
@@ -87,7 +91,8 @@ layer_reversed _ _ = refl
 
 pub reversed : (a b : Value) → value_cmp a b ≡ ordering_reverse (value_cmp b a)
 reversed = ind-Value IsReversed (λ x y is b.
-    let here = subst (λ z. layer z (out-Value b) ≡ ordering_reverse (layer (out-Value b) z)) is (layer_reversed y (out-Value b)) in
+    let as_reversed : Value-F Value → Type 0 = λ z. layer z (out-Value b) ≡ ordering_reverse (layer (out-Value b) z) in
+    let here = subst as_reversed is (layer_reversed y (out-Value b)) in
     at_left x b ∙ here ∙ sym (ap ordering_reverse (at_right b x)))
 
 pub itself : (a : Value) → value_cmp a a ≡ Equal
@@ -118,7 +123,8 @@ bool_tied true false e = absurd (not_equal e refl)
 bool_tied false true e = absurd (not_equal e refl)
 bool_tied false false e = refl
 
-layer_tied : (x : Value-F Tied) (y : Value-F Value) → layer (map-Value Tied Value of_tied x) y ≡ Equal → map-Value Tied Value of_tied x ≡ y
+layer_tied : (x : Value-F Tied) (y : Value-F Value) → layer (map-Value Tied Value of_tied x) y ≡ Equal →
+    map-Value Tied Value of_tied x ≡ y
 layer_tied (v.Int a) (v.Int b) e = ap (λ n. v.Int n) (int_cmp-IsAntisymmetric a b e)
 layer_tied (v.Text a) (v.Text b) e = ap (λ t. v.Text t) (slice_cmp-IsAntisymmetric nat_cmp-IsAntisymmetric a b e)
 layer_tied (v.Bool a) (v.Bool b) e = ap (λ t. v.Bool t) (bool_tied a b e)
@@ -147,8 +153,10 @@ less_of Less e = refl
 less_of Equal e = absurd (cc)
 less_of Greater e = absurd (cc)
 
-module _ (a b c : Value) (xs ys zs : Ordering) (first : is_lt (value_cmp a b) ≡ true → is_lt (value_cmp b c) ≡ true → is_lt (value_cmp a c) ≡ true) (rest : is_lt xs ≡ true → is_lt ys ≡ true → is_lt zs ≡ true) where
-  then_chained : (o p : Ordering) → value_cmp a b ≡ o → value_cmp b c ≡ p → is_lt (ordering_then o xs) ≡ true → is_lt (ordering_then p ys) ≡ true → is_lt (ordering_then (value_cmp a c) zs) ≡ true
+module _ (a b c : Value) (xs ys zs : Ordering) (first : is_lt (value_cmp a b) ≡ true → is_lt (value_cmp b c) ≡ true →
+    is_lt (value_cmp a c) ≡ true) (rest : is_lt xs ≡ true → is_lt ys ≡ true → is_lt zs ≡ true) where
+  then_chained : (o p : Ordering) → value_cmp a b ≡ o → value_cmp b c ≡ p → is_lt (ordering_then o xs) ≡ true →
+      is_lt (ordering_then p ys) ≡ true → is_lt (ordering_then (value_cmp a c) zs) ≡ true
   then_chained Less Less e f h g = ap (λ r. is_lt (ordering_then r zs)) (less_of _ (first (ap is_lt e) (ap is_lt f)))
   then_chained Less Equal e f h g = ap (λ r. is_lt (ordering_then r zs)) (ap (value_cmp a) (sym (tied b c f)) ∙ e)
   then_chained Equal Less e f h g = ap (λ r. is_lt (ordering_then r zs)) (ap (λ x. value_cmp x c) (tied a b e) ∙ f)
@@ -157,7 +165,8 @@ module _ (a b c : Value) (xs ys zs : Ordering) (first : is_lt (value_cmp a b) �
   then_chained Equal Greater e f h g = absurd (cc)
   then_chained Greater p e f h g = absurd (cc)
 
-all_chained : (ts : List Chained) (ys zs : List Value) → is_lt (parts_cmp (map of_chained ts) ys) ≡ true → is_lt (parts_cmp ys zs) ≡ true → is_lt (parts_cmp (map of_chained ts) zs) ≡ true
+all_chained : (ts : List Chained) (ys zs : List Value) → is_lt (parts_cmp (map of_chained ts) ys) ≡ true →
+    is_lt (parts_cmp ys zs) ≡ true → is_lt (parts_cmp (map of_chained ts) zs) ≡ true
 all_chained [] [] zs h g = g
 all_chained [] (y ∷ ys) [] h g = g
 all_chained [] (y ∷ ys) (z ∷ zs) h g = refl
@@ -169,13 +178,15 @@ all_chained (t ∷ ts) (y ∷ ys) (z ∷ zs) h g =
 int_chained : (a b c : ℤ) → is_lt (int_cmp a b) ≡ true → is_lt (int_cmp b c) ≡ true → is_lt (int_cmp a c) ≡ true
 int_chained a b c h g = ap is_lt (int_cmp_total.trans a b c (less_of _ h) (less_of _ g))
 
-text_chained : (a b c : List ℕ) → is_lt (slice_cmp nat_cmp a b) ≡ true → is_lt (slice_cmp nat_cmp b c) ≡ true → is_lt (slice_cmp nat_cmp a c) ≡ true
+text_chained : (a b c : List ℕ) → is_lt (slice_cmp nat_cmp a b) ≡ true → is_lt (slice_cmp nat_cmp b c) ≡ true →
+    is_lt (slice_cmp nat_cmp a c) ≡ true
 text_chained a b c h g = ap is_lt (nat_list_cmp_total.trans a b c (less_of _ h) (less_of _ g))
 
 bool_chained : (a b c : Bool) → is_lt (bool_cmp a b) ≡ true → is_lt (bool_cmp b c) ≡ true → is_lt (bool_cmp a c) ≡ true
 bool_chained a b c h g = ap is_lt (bool_cmp_total.trans a b c (less_of _ h) (less_of _ g))
 
-from_int : (a : ℤ) (y z : Value-F Value) → is_lt (layer (v.Int a) y) ≡ true → is_lt (layer y z) ≡ true → is_lt (layer (v.Int a) z) ≡ true
+from_int : (a : ℤ) (y z : Value-F Value) → is_lt (layer (v.Int a) y) ≡ true → is_lt (layer y z) ≡ true →
+    is_lt (layer (v.Int a) z) ≡ true
 from_int a (v.Int b) (v.Int c) h g = int_chained a b c h g
 from_int a (v.Text _) (v.Text _) h g = refl
 from_int a (v.Bool _) (v.Bool _) h g = refl
@@ -183,7 +194,8 @@ from_int a v.Nothing v.Nothing h g = refl
 from_int a (v.Tuple _) (v.Tuple _) h g = refl
 from_int a _ _ h g = cc
 
-from_text : (a : List ℕ) (y z : Value-F Value) → is_lt (layer (v.Text a) y) ≡ true → is_lt (layer y z) ≡ true → is_lt (layer (v.Text a) z) ≡ true
+from_text : (a : List ℕ) (y z : Value-F Value) → is_lt (layer (v.Text a) y) ≡ true → is_lt (layer y z) ≡ true →
+    is_lt (layer (v.Text a) z) ≡ true
 from_text a (v.Int _) (v.Int _) h g = absurd (cc)
 from_text a (v.Text b) (v.Text c) h g = text_chained a b c h g
 from_text a (v.Bool _) (v.Bool _) h g = refl
@@ -191,7 +203,8 @@ from_text a v.Nothing v.Nothing h g = refl
 from_text a (v.Tuple _) (v.Tuple _) h g = refl
 from_text a _ _ h g = cc
 
-from_bool : (a : Bool) (y z : Value-F Value) → is_lt (layer (v.Bool a) y) ≡ true → is_lt (layer y z) ≡ true → is_lt (layer (v.Bool a) z) ≡ true
+from_bool : (a : Bool) (y z : Value-F Value) → is_lt (layer (v.Bool a) y) ≡ true → is_lt (layer y z) ≡ true →
+    is_lt (layer (v.Bool a) z) ≡ true
 from_bool a (v.Int _) (v.Int _) h g = absurd (cc)
 from_bool a (v.Text _) (v.Text _) h g = absurd (cc)
 from_bool a (v.Bool b) (v.Bool c) h g = bool_chained a b c h g
@@ -199,7 +212,8 @@ from_bool a v.Nothing v.Nothing h g = refl
 from_bool a (v.Tuple _) (v.Tuple _) h g = refl
 from_bool a _ _ h g = cc
 
-from_nothing : (y z : Value-F Value) → is_lt (layer v.Nothing y) ≡ true → is_lt (layer y z) ≡ true → is_lt (layer v.Nothing z) ≡ true
+from_nothing : (y z : Value-F Value) → is_lt (layer v.Nothing y) ≡ true → is_lt (layer y z) ≡ true →
+    is_lt (layer v.Nothing z) ≡ true
 from_nothing (v.Int _) (v.Int _) h g = absurd (cc)
 from_nothing (v.Text _) (v.Text _) h g = absurd (cc)
 from_nothing (v.Bool _) (v.Bool _) h g = absurd (cc)
@@ -207,7 +221,8 @@ from_nothing v.Nothing v.Nothing h g = absurd (cc)
 from_nothing (v.Tuple _) (v.Tuple _) h g = refl
 from_nothing _ _ h g = cc
 
-from_tuple : (ts : List Chained) (y z : Value-F Value) → is_lt (layer (v.Tuple (map of_chained ts)) y) ≡ true → is_lt (layer y z) ≡ true → is_lt (layer (v.Tuple (map of_chained ts)) z) ≡ true
+from_tuple : (ts : List Chained) (y z : Value-F Value) → is_lt (layer (v.Tuple (map of_chained ts)) y) ≡ true →
+    is_lt (layer y z) ≡ true → is_lt (layer (v.Tuple (map of_chained ts)) z) ≡ true
 from_tuple ts (v.Int _) (v.Int _) h g = absurd (cc)
 from_tuple ts (v.Text _) (v.Text _) h g = absurd (cc)
 from_tuple ts (v.Bool _) (v.Bool _) h g = absurd (cc)
@@ -215,7 +230,8 @@ from_tuple ts v.Nothing v.Nothing h g = absurd (cc)
 from_tuple ts (v.Tuple b) (v.Tuple c) h g = all_chained ts b c h g
 from_tuple ts _ _ h g = cc
 
-layer_chained : (x : Value-F Chained) (y z : Value-F Value) → is_lt (layer (map-Value Chained Value of_chained x) y) ≡ true → is_lt (layer y z) ≡ true → is_lt (layer (map-Value Chained Value of_chained x) z) ≡ true
+layer_chained : (x : Value-F Chained) (y z : Value-F Value) → is_lt (layer (map-Value Chained Value of_chained x) y) ≡ true →
+    is_lt (layer y z) ≡ true → is_lt (layer (map-Value Chained Value of_chained x) z) ≡ true
 layer_chained (v.Int a) y z h g = from_int a y z h g
 layer_chained (v.Text a) y z h g = from_text a y z h g
 layer_chained (v.Bool a) y z h g = from_bool a y z h g
@@ -247,7 +263,8 @@ slice_cmp-map (x ∷ xs) (y ∷ ys) = ap (λ r. ordering_then (value_cmp x y) r)
 -- tuples are ordered by their parts, as lists are
 pub tuples_cmp : (xs ys : List Value) → value_cmp (value.Tuple xs) (value.Tuple ys) ≡ slice_cmp value_cmp xs ys
 unfolding roll-Value out-Value denote.Hole.Carrier.roll
-tuples_cmp xs ys = at_left (v.Tuple xs) (value.Tuple ys) ∙ ap (λ z. layer (v.Tuple xs) z) (out_rolled (v.Tuple ys)) ∙ slice_cmp-map xs ys
+tuples_cmp xs ys =
+    at_left (v.Tuple xs) (value.Tuple ys) ∙ ap (λ z. layer (v.Tuple xs) z) (out_rolled (v.Tuple ys)) ∙ slice_cmp-map xs ys
 
 -- ---- what the comparisons owe
 

@@ -65,6 +65,12 @@ impl fmt::Display for Kind {
     }
 }
 
+impl fmt::Debug for Kind {
+    fn fmt<W: fmt::Write>(&self, f: &mut fmt::Formatter<W>) -> fmt::Result {
+        write!(f, "{self}")
+    }
+}
+
 impl Value {
     /// The text of the value, as it prints. Refused only for want of memory.
     pub fn text(&self, alloc: Global) -> Result<TextValue, NoMemory>

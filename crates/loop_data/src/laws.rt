@@ -3,10 +3,7 @@
 ghost use Rattle.std.specs.Prelude.{◌≡◌};
 ghost use Rattle.loop_data.specs.Laws.{ValuesAreOrdered, OnlyEqualValuesTie, NumbersStandBeforeTexts};
 
-use crate::{
-    Axis, Binding, Branch, Expr, Inner, Kind, PrintLine, RangeExpr, Statement, TextValue,
-    TowerExpr, Value, ValueKind,
-};
+use crate::{Expr, Kind, RangeExpr, TextValue, TowerExpr, Value, ValueKind};
 
 /// Any two values are in order, and only equal ones are the same in it. Numbers stand before texts.
 pub fn values_are_ordered()
@@ -31,14 +28,4 @@ pub fn threads_share_expressions() {
     is_shared::<Expr>();
     is_shared::<RangeExpr>();
     is_shared::<TowerExpr>();
-}
-
-/// Threads share the lines of a program, and hand them to each other.
-pub fn threads_share_lines() {
-    is_shared::<Statement>();
-    is_shared::<Branch>();
-    is_shared::<Axis>();
-    is_shared::<Inner>();
-    is_shared::<Binding>();
-    is_shared::<PrintLine>();
 }

@@ -19,7 +19,7 @@ pub use boxed::Boxed;
 pub use expr::{Expr, Op, RangeExpr, Word};
 pub use head::{Axis, Binding, HeadLine, Inner, PrintLine};
 pub use many::{CopyIn, Many};
-pub use statement::{Branch, Statement, copy_block};
+pub use statement::{Branch, Statement, copy_block, copy_start};
 pub use text::TextValue;
 pub use tower::{Kind, TowerExpr};
 pub use value::{Value, ValueKind};

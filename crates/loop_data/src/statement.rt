@@ -58,7 +58,8 @@ pub struct Branch {
     pub block: Many<Statement>,
 }
 
-fn copy_start(alloc: Global, start: &Option<Value>) -> Result<Option<Value>, NoMemory>
+/// The value after `from` once more, where there is one. Refused only for want of memory.
+pub fn copy_start(alloc: Global, start: &Option<Value>) -> Result<Option<Value>, NoMemory>
     ensures { IfOk result (λ s. s ≡ start.now) }
 {
     match start {

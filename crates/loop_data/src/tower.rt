@@ -4,8 +4,8 @@ use crate::{Boxed, Expr};
 use no_memory::NoMemory;
 use std::alloc::Global;
 
-/// A kind of tower, which says what the inputs of a name are folded into.
-#[derive(Debug, PartialEq, Eq, Drop)]
+/// A kind of tower, which says what the inputs of a name are folded into. `{:?}` of it is its words.
+#[derive(PartialEq, Eq, Drop)]
 pub enum Kind {
     /// `sum`: the exact sum.
     Sum,

@@ -31,4 +31,5 @@ GaveEachFront view r ts = (x : Expr) (wide : Bool) (rest : List Token) → Front
 
 -- tokens spell one expression at most up to where one may end
 abbrev pub OneReading : Type 0
-OneReading = (ts rest also : List Token) (x y : Expr) (wide too : Bool) → Front ts x wide rest → Front ts y too also → (x ≡ y) × (wide ≡ too) × (rest ≡ also)
+OneReading = (ts rest also : List Token) (x y : Expr) (wide too : Bool) →
+    Front ts x wide rest → Front ts y too also → (x ≡ y) × (wide ≡ too) × (rest ≡ also)

@@ -1,6 +1,7 @@
 -- What the reader of expressions does, step by step. Apart from the grammar, and tied to it in proofs/.
 -- Source: this project.
-use Rattle.std.specs.Prelude.{◌≡◌, Bool, true, false, ◌||◌, ℕ, nat_le, ◌≤◌, List, [], ◌∷◌, ◌++◌, length, Option, Some, None, Result, Ok, Err, if◌then◌else◌}
+use Rattle.std.specs.Prelude.{◌≡◌, Bool, true, false, ◌||◌, ℕ, nat_le, ◌≤◌, List, [], ◌∷◌, ◌++◌, length, Option, Some, None}
+use Rattle.std.specs.Prelude.{Result, Ok, Err, if◌then◌else◌}
 use Rattle.loop_tokens.specs.declared.token.Token.{Token}
 use Rattle.loop_tokens.specs.declared.token.Token.TheVariants as tok
 use Rattle.loop_tokens.specs.declared.keyword.Keyword.{Keyword}
@@ -16,7 +17,8 @@ use Rattle.loop_exprs.specs.declared.level.Level.{Level}
 use Rattle.loop_exprs.specs.declared.level.Level.TheVariants as level
 use Rattle.loop_exprs.specs.declared.read.ReadError.{ReadError}
 use Rattle.loop_exprs.specs.declared.read.ReadError.TheVariants.{NoMemory, NotSpelled}
-use Rattle.loop_exprs.specs.Operations.{tighter, groups_left, word_of, extreme_of, constant_of, is_wide, positive_value, is_wide_negative, negative_value}
+use Rattle.loop_exprs.specs.Operations.{tighter, groups_left, word_of, extreme_of, constant_of, is_wide, positive_value}
+use Rattle.loop_exprs.specs.Operations.{is_wide_negative, negative_value}
 use Rattle.loop_exprs.specs.Grammar.{NotFirst, NoNumberFirst, IsOperation}
 
 -- something read, whether some number was too wide, and the tokens behind it, or nothing
@@ -121,71 +123,105 @@ mutual
     left : {l : Level} {ts us : List Token} {a : Expr} {u : Bool} {r : Outcome} → groups_left l ≡ true →
         Reads (tighter l) ts (Some (a, u, us)) → GoesOn l a u us r → Reads l ts r
     not_none : {ts : List Token} → Reads level.Not ts None → Reads level.Not (tok.Keyword kw.Not ∷ ts) None
-    not : {ts rest : List Token} {x : Expr} {u : Bool} → Reads level.Not ts (Some (x, u, rest)) → Reads level.Not (tok.Keyword kw.Not ∷ ts) (Some (e.Not x, u, rest))
-    not_else : {ts : List Token} {r : Outcome} → NotFirst (tok.Keyword kw.Not) ts → Reads level.Compare ts r → Reads level.Not ts r
+    not : {ts rest : List Token} {x : Expr} {u : Bool} →
+        Reads level.Not ts (Some (x, u, rest)) → Reads level.Not (tok.Keyword kw.Not ∷ ts) (Some (e.Not x, u, rest))
+    not_else : {ts : List Token} {r : Outcome} →
+        NotFirst (tok.Keyword kw.Not) ts → Reads level.Compare ts r → Reads level.Not ts r
     compare_none : {ts : List Token} → Reads level.Join ts None → Reads level.Compare ts None
-    compare_one : {ts us : List Token} {a : Expr} {u : Bool} → Reads level.Join ts (Some (a, u, us)) → Ends level.Compare us → Reads level.Compare ts (Some (a, u, us))
+    compare_one : {ts us : List Token} {a : Expr} {u : Bool} →
+        Reads level.Join ts (Some (a, u, us)) → Ends level.Compare us → Reads level.Compare ts (Some (a, u, us))
     compare_half : {t : Token} {o : Op} {ts us : List Token} {a : Expr} {u : Bool} → IsOperation level.Compare t o →
         Reads level.Join ts (Some (a, u, t ∷ us)) → Reads level.Join us None → Reads level.Compare ts None
-    compare : {t : Token} {o : Op} {ts us rest : List Token} {a b : Expr} {u v : Bool} → IsOperation level.Compare t o →
-        Reads level.Join ts (Some (a, u, t ∷ us)) → Reads level.Join us (Some (b, v, rest)) → Reads level.Compare ts (Some (e.Two o a b, u || v, rest))
-    negative : {n : List ℕ} {rest : List Token} → Reads level.Negate (tok.Sign sg.Minus ∷ tok.Number n ∷ rest) (Some (e.Lit (val.Int (negative_value (number_of n))), is_wide_negative (number_of n), rest))
-    negate_none : {ts : List Token} → NoNumberFirst ts → Reads level.Negate ts None → Reads level.Negate (tok.Sign sg.Minus ∷ ts) None
+    compare : {t : Token} {o : Op} {ts us rest : List Token} {a b : Expr} {u v : Bool} →
+        IsOperation level.Compare t o → Reads level.Join ts (Some (a, u, t ∷ us)) → Reads level.Join us (Some (b, v, rest)) →
+        Reads level.Compare ts (Some (e.Two o a b, u || v, rest))
+    negative : {n : List ℕ} {rest : List Token} →
+        Reads level.Negate (tok.Sign sg.Minus ∷ tok.Number n ∷ rest)
+        (Some (e.Lit (val.Int (negative_value (number_of n))), is_wide_negative (number_of n), rest))
+    negate_none : {ts : List Token} →
+        NoNumberFirst ts → Reads level.Negate ts None → Reads level.Negate (tok.Sign sg.Minus ∷ ts) None
     negate : {ts rest : List Token} {x : Expr} {u : Bool} → NoNumberFirst ts → Reads level.Negate ts (Some (x, u, rest)) →
         Reads level.Negate (tok.Sign sg.Minus ∷ ts) (Some (e.Neg x, u, rest))
-    negate_else : {ts : List Token} {r : Outcome} → NotFirst (tok.Sign sg.Minus) ts → Reads level.Atom ts r → Reads level.Negate ts r
-    number : {n : List ℕ} {rest : List Token} → Reads level.Atom (tok.Number n ∷ rest) (Some (e.Lit (val.Int (positive_value (number_of n))), is_wide (number_of n), rest))
-    text : {raw : List ℕ} {rest : List Token} → Reads level.Atom (tok.Text raw ∷ rest) (Some (e.Lit (val.Text (text_of raw)), false, rest))
+    negate_else : {ts : List Token} {r : Outcome} →
+        NotFirst (tok.Sign sg.Minus) ts → Reads level.Atom ts r → Reads level.Negate ts r
+    number : {n : List ℕ} {rest : List Token} →
+        Reads level.Atom (tok.Number n ∷ rest)
+        (Some (e.Lit (val.Int (positive_value (number_of n))), is_wide (number_of n), rest))
+    text : {raw : List ℕ} {rest : List Token} →
+        Reads level.Atom (tok.Text raw ∷ rest) (Some (e.Lit (val.Text (text_of raw)), false, rest))
     name : {n : List ℕ} {rest : List Token} → Reads level.Atom (tok.Name n ∷ rest) (Some (e.Name n, false, rest))
-    constant : {k : Keyword} {x : Expr} {rest : List Token} → constant_of k ≡ Some x → Reads level.Atom (tok.Keyword k ∷ rest) (Some (x, false, rest))
+    constant : {k : Keyword} {x : Expr} {rest : List Token} →
+        constant_of k ≡ Some x → Reads level.Atom (tok.Keyword k ∷ rest) (Some (x, false, rest))
     group_none : {ts : List Token} → ReadsAll ts None → Reads level.Atom (tok.Sign sg.Open ∷ ts) None
-    group : {ts us : List Token} {xs : List Expr} {u : Bool} {r : Outcome} → ReadsAll ts (Some (xs, u, us)) → r ≡ beside u us (closed xs) → Reads level.Atom (tok.Sign sg.Open ∷ ts) r
-    call_alone : {k : Keyword} {ts : List Token} → constant_of k ≡ None → NotFirst (tok.Sign sg.Open) ts → Reads level.Atom (tok.Keyword k ∷ ts) None
-    call_none : {k : Keyword} {ts : List Token} → constant_of k ≡ None → ReadsAll ts None → Reads level.Atom (tok.Keyword k ∷ tok.Sign sg.Open ∷ ts) None
-    call : {k : Keyword} {ts us : List Token} {xs : List Expr} {u : Bool} {r : Outcome} → constant_of k ≡ None → ReadsAll ts (Some (xs, u, us)) → r ≡ beside u us (applied k xs) →
+    group : {ts us : List Token} {xs : List Expr} {u : Bool} {r : Outcome} →
+        ReadsAll ts (Some (xs, u, us)) → r ≡ beside u us (closed xs) → Reads level.Atom (tok.Sign sg.Open ∷ ts) r
+    call_alone : {k : Keyword} {ts : List Token} →
+        constant_of k ≡ None → NotFirst (tok.Sign sg.Open) ts → Reads level.Atom (tok.Keyword k ∷ ts) None
+    call_none : {k : Keyword} {ts : List Token} →
+        constant_of k ≡ None → ReadsAll ts None → Reads level.Atom (tok.Keyword k ∷ tok.Sign sg.Open ∷ ts) None
+    call : {k : Keyword} {ts us : List Token} {xs : List Expr} {u : Bool} {r : Outcome} →
+        constant_of k ≡ None → ReadsAll ts (Some (xs, u, us)) → r ≡ beside u us (applied k xs) →
         Reads level.Atom (tok.Keyword k ∷ tok.Sign sg.Open ∷ ts) r
     no_token : Reads level.Atom [] None
     no_atom : {t : Token} {ts : List Token} → begins_atom t ≡ false → Reads level.Atom (t ∷ ts) None
     choice_none : {ts : List Token} → Reads level.Expr ts None → Reads level.Expr (tok.Keyword kw.If ∷ ts) None
-    no_then : {c : Expr} {u : Bool} {ts us : List Token} → Reads level.Expr ts (Some (c, u, us)) → NotFirst (tok.Keyword kw.Then) us → Reads level.Expr (tok.Keyword kw.If ∷ ts) None
-    value_none : {c : Expr} {u : Bool} {ts us : List Token} → Reads level.Expr ts (Some (c, u, tok.Keyword kw.Then ∷ us)) → Reads level.Expr us None → Reads level.Expr (tok.Keyword kw.If ∷ ts) None
-    no_else : {c a : Expr} {u v : Bool} {ts us vs : List Token} → Reads level.Expr ts (Some (c, u, tok.Keyword kw.Then ∷ us)) → Reads level.Expr us (Some (a, v, vs)) → NotFirst (tok.Keyword kw.Else) vs →
+    no_then : {c : Expr} {u : Bool} {ts us : List Token} →
+        Reads level.Expr ts (Some (c, u, us)) → NotFirst (tok.Keyword kw.Then) us → Reads level.Expr (tok.Keyword kw.If ∷ ts) None
+    value_none : {c : Expr} {u : Bool} {ts us : List Token} →
+        Reads level.Expr ts (Some (c, u, tok.Keyword kw.Then ∷ us)) → Reads level.Expr us None →
         Reads level.Expr (tok.Keyword kw.If ∷ ts) None
-    choice_some : {c a : Expr} {u v : Bool} {ts us rest : List Token} → Reads level.Expr ts (Some (c, u, tok.Keyword kw.Then ∷ us)) →
-        Reads level.Expr us (Some (a, v, tok.Keyword kw.Else ∷ tok.Keyword kw.Nothing ∷ rest)) → Reads level.Expr (tok.Keyword kw.If ∷ ts) (Some (e.If c a None, u || v, rest))
-    other_none : {c a : Expr} {u v : Bool} {ts us vs : List Token} → Reads level.Expr ts (Some (c, u, tok.Keyword kw.Then ∷ us)) → Reads level.Expr us (Some (a, v, tok.Keyword kw.Else ∷ vs)) →
-        NotFirst (tok.Keyword kw.Nothing) vs → Reads level.Expr vs None → Reads level.Expr (tok.Keyword kw.If ∷ ts) None
-    choice : {c a b : Expr} {u v w : Bool} {ts us vs rest : List Token} → Reads level.Expr ts (Some (c, u, tok.Keyword kw.Then ∷ us)) → Reads level.Expr us (Some (a, v, tok.Keyword kw.Else ∷ vs)) →
-        NotFirst (tok.Keyword kw.Nothing) vs → Reads level.Expr vs (Some (b, w, rest)) → Reads level.Expr (tok.Keyword kw.If ∷ ts) (Some (e.If c a (Some b), u || v || w, rest))
+    no_else : {c a : Expr} {u v : Bool} {ts us vs : List Token} →
+        Reads level.Expr ts (Some (c, u, tok.Keyword kw.Then ∷ us)) → Reads level.Expr us (Some (a, v, vs)) →
+        NotFirst (tok.Keyword kw.Else) vs → Reads level.Expr (tok.Keyword kw.If ∷ ts) None
+    choice_some : {c a : Expr} {u v : Bool} {ts us rest : List Token} →
+        Reads level.Expr ts (Some (c, u, tok.Keyword kw.Then ∷ us)) →
+        Reads level.Expr us (Some (a, v, tok.Keyword kw.Else ∷ tok.Keyword kw.Nothing ∷ rest)) →
+        Reads level.Expr (tok.Keyword kw.If ∷ ts) (Some (e.If c a None, u || v, rest))
+    other_none : {c a : Expr} {u v : Bool} {ts us vs : List Token} →
+        Reads level.Expr ts (Some (c, u, tok.Keyword kw.Then ∷ us)) →
+        Reads level.Expr us (Some (a, v, tok.Keyword kw.Else ∷ vs)) → NotFirst (tok.Keyword kw.Nothing) vs →
+        Reads level.Expr vs None → Reads level.Expr (tok.Keyword kw.If ∷ ts) None
+    choice : {c a b : Expr} {u v w : Bool} {ts us vs rest : List Token} →
+        Reads level.Expr ts (Some (c, u, tok.Keyword kw.Then ∷ us)) →
+        Reads level.Expr us (Some (a, v, tok.Keyword kw.Else ∷ vs)) → NotFirst (tok.Keyword kw.Nothing) vs →
+        Reads level.Expr vs (Some (b, w, rest)) →
+        Reads level.Expr (tok.Keyword kw.If ∷ ts) (Some (e.If c a (Some b), u || v || w, rest))
     no_choice : {ts : List Token} {r : Outcome} → NotFirst (tok.Keyword kw.If) ts → Reads level.Or ts r → Reads level.Expr ts r
 
   -- GoesOn l a u ts r: behind the expression a the reader goes on with the operations of the level l.
   pub data GoesOn : Level → Expr → Bool → List Token → Outcome → Type 0 where
     ends : {l : Level} {a : Expr} {u : Bool} {ts : List Token} → Ends l ts → GoesOn l a u ts (Some (a, u, ts))
-    goes_none : {l : Level} {a : Expr} {u : Bool} {t : Token} {o : Op} {ts : List Token} → IsOperation l t o → Reads (tighter l) ts None → GoesOn l a u (t ∷ ts) None
+    goes_none : {l : Level} {a : Expr} {u : Bool} {t : Token} {o : Op} {ts : List Token} →
+        IsOperation l t o → Reads (tighter l) ts None → GoesOn l a u (t ∷ ts) None
     goes : {l : Level} {a b : Expr} {u v : Bool} {t : Token} {o : Op} {ts us : List Token} {r : Outcome} → IsOperation l t o →
         Reads (tighter l) ts (Some (b, v, us)) → GoesOn l (e.Two o a b) (u || v) us r → GoesOn l a u (t ∷ ts) r
 
   -- ReadsParts found u ts r: behind the parts found the reader goes on with one more, and with all behind its comma.
   pub data ReadsParts : List Expr → Bool → List Token → Read (List Expr) → Type 0 where
     parts_none : {found : List Expr} {u : Bool} {ts : List Token} → Reads level.Expr ts None → ReadsParts found u ts None
-    last : {found : List Expr} {u v : Bool} {ts us : List Token} {x : Expr} → Reads level.Expr ts (Some (x, v, us)) → NotFirst (tok.Sign sg.Comma) us →
+    last : {found : List Expr} {u v : Bool} {ts us : List Token} {x : Expr} →
+        Reads level.Expr ts (Some (x, v, us)) → NotFirst (tok.Sign sg.Comma) us →
         ReadsParts found u ts (Some (found ++ x ∷ [], u || v, us))
-    more : {found : List Expr} {u v : Bool} {ts us : List Token} {x : Expr} {r : Read (List Expr)} → Reads level.Expr ts (Some (x, v, tok.Sign sg.Comma ∷ us)) →
-        ReadsParts (found ++ x ∷ []) (u || v) us r → ReadsParts found u ts r
+    more : {found : List Expr} {u v : Bool} {ts us : List Token} {x : Expr} {r : Read (List Expr)} →
+        Reads level.Expr ts (Some (x, v, tok.Sign sg.Comma ∷ us)) → ReadsParts (found ++ x ∷ []) (u || v) us r →
+        ReadsParts found u ts r
 
   -- ReadsAll ts r: the parts up to the parenthesis that closes them.
   pub data ReadsAll : List Token → Read (List Expr) → Type 0 where
     all_none : {ts : List Token} → ReadsParts [] false ts None → ReadsAll ts None
-    unclosed : {ts us : List Token} {xs : List Expr} {u : Bool} → ReadsParts [] false ts (Some (xs, u, us)) → NotFirst (tok.Sign sg.Close) us → ReadsAll ts None
-    all : {ts us : List Token} {xs : List Expr} {u : Bool} → ReadsParts [] false ts (Some (xs, u, tok.Sign sg.Close ∷ us)) → ReadsAll ts (Some (xs, u, us))
+    unclosed : {ts us : List Token} {xs : List Expr} {u : Bool} →
+        ReadsParts [] false ts (Some (xs, u, us)) → NotFirst (tok.Sign sg.Close) us → ReadsAll ts None
+    all : {ts us : List Token} {xs : List Expr} {u : Bool} →
+        ReadsParts [] false ts (Some (xs, u, tok.Sign sg.Close ∷ us)) → ReadsAll ts (Some (xs, u, us))
 
 -- What follows `then`, whatever the tokens of the test.
 abbrev pub GivesBranches : {Y : Type 0} → Expr → Bool → List Token → (Y → Expr × Bool × List Token) → Result Y ReadError → Type 0
-GivesBranches c u ts view r = (before : List Token) → Reads level.Expr before (Some (c, u, tok.Keyword kw.Then ∷ ts)) → Gives (Reads level.Expr (tok.Keyword kw.If ∷ before)) view r
+GivesBranches c u ts view r = (before : List Token) → Reads level.Expr before (Some (c, u, tok.Keyword kw.Then ∷ ts)) →
+    Gives (Reads level.Expr (tok.Keyword kw.If ∷ before)) view r
 
 -- What stands behind an expression that was read at the next tighter level, whatever its tokens: what is read at the level.
-abbrev pub GivesOnward : {Y : Type 0} → Level → Expr → Bool → List Token → (Y → Expr × Bool × List Token) → Result Y ReadError → Type 0
+abbrev pub GivesOnward : {Y : Type 0} → Level → Expr → Bool → List Token → (Y → Expr × Bool × List Token) →
+    Result Y ReadError → Type 0
 GivesOnward l a u ts view r = (before : List Token) → Reads (tighter l) before (Some (a, u, ts)) → Gives (Reads l before) view r
 
 -- What stands first: its level, which is no looser than the one that is asked for, and what is read at that level.

@@ -100,7 +100,9 @@ pub(crate) fn opened<'t, 'a>(
     level: Level,
     tokens: &'t [Token<'a>],
 ) -> Option<&'t [Token<'a>]>
-    ensures { MatchOption result (rank form ≤ rank level → NotOpened form tokens.now) (λ rest. (rank form ≤ rank level) × Opens form tokens.now rest.now) }
+    ensures { MatchOption result
+        (rank form ≤ rank level → NotOpened form tokens.now)
+        (λ rest. (rank form ≤ rank level) × Opens form tokens.now rest.now) }
 {
     if rank(form) <= rank(level) {
         opening(form, tokens)

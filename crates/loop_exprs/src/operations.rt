@@ -1,7 +1,8 @@
 //! Which tokens stand for which operations, and how tightly these hold together.
 
 ghost use Rattle.std.specs.Prelude.{◌≡◌, ◌<◌, ◌≤◌, MatchBool};
-ghost use Rattle.loop_exprs.specs.Operations.{tighter, operation_of, level_of, sign_operation, keyword_operation, word_of, extreme_of, constant_of};
+ghost use Rattle.loop_exprs.specs.Operations.{tighter, operation_of, level_of, sign_operation, keyword_operation, word_of};
+ghost use Rattle.loop_exprs.specs.Operations.{extreme_of, constant_of};
 ghost use Rattle.loop_exprs.specs.Reading.{looser, rank};
 
 use crate::level::Level;

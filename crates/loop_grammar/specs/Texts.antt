@@ -29,7 +29,8 @@ pub data Verdict : Type 0 where
   says : Line → Verdict
   refused : LineRefusal → Verdict
 
--- TokensSay tokens whole verdict: what the tokens of a line say, `whole` telling whether they go on to its end or to a comment. The first that applies decides.
+-- TokensSay tokens whole verdict: what the tokens of a line say, `whole` telling whether they go on to its end or to a comment.
+-- The first that applies decides.
 pub data TokensSay : List Token → Bool → Verdict → Type 0 where
   -- over 256 tokens that are no parentheses, or over 256 open parentheses
   deep : {ts : List Token} {whole : Bool} → is_too_deep ts ≡ true → TokensSay ts whole (refused too_deep)
@@ -37,12 +38,17 @@ pub data TokensSay : List Token → Bool → Verdict → Type 0 where
   stuck : {ts : List Token} → is_too_deep ts ≡ false → TokensSay ts false (refused not_a_line)
   none : TokensSay [] true blank
   -- the tokens spell no line
-  not_spelled : {ts : List Token} → is_too_deep ts ≡ false → ts ≢ [] → ((x : Line) (wide : Bool) → SpellsLine x wide ts → ⊥) → TokensSay ts true (refused not_a_line)
+  not_spelled : {ts : List Token} →
+      is_too_deep ts ≡ false → ts ≢ [] → ((x : Line) (wide : Bool) → SpellsLine x wide ts → ⊥) →
+      TokensSay ts true (refused not_a_line)
   -- over 4 nested groups
-  groups : {ts : List Token} {x : Line} {wide : Bool} → is_too_deep ts ≡ false → SpellsLine x wide ts → most_groups < line_groups x → TokensSay ts true (refused too_deep)
+  groups : {ts : List Token} {x : Line} {wide : Bool} →
+      is_too_deep ts ≡ false → SpellsLine x wide ts → most_groups < line_groups x → TokensSay ts true (refused too_deep)
   -- a number that is too wide
-  wide : {ts : List Token} {x : Line} → is_too_deep ts ≡ false → SpellsLine x true ts → line_groups x ≤ most_groups → TokensSay ts true (refused too_wide)
-  line : {ts : List Token} {x : Line} → is_too_deep ts ≡ false → SpellsLine x false ts → line_groups x ≤ most_groups → TokensSay ts true (says x)
+  wide : {ts : List Token} {x : Line} →
+      is_too_deep ts ≡ false → SpellsLine x true ts → line_groups x ≤ most_groups → TokensSay ts true (refused too_wide)
+  line : {ts : List Token} {x : Line} →
+      is_too_deep ts ≡ false → SpellsLine x false ts → line_groups x ≤ most_groups → TokensSay ts true (says x)
 
 -- what the bytes of a line say
 abbrev pub Says : List ℕ → Verdict → Type 0
@@ -51,30 +57,36 @@ Says bytes verdict = (ts : List Token) × (whole : Bool) × Holds bytes ts whole
 -- AllSay n lines forms: the lines, the first of which has the number n, are blank or say these forms.
 pub data AllSay : ℕ → List (List ℕ) → List NumberedLine → Type 0 where
   none : {n : ℕ} → AllSay n [] []
-  blank_line : {n : ℕ} {bytes : List ℕ} {lines : List (List ℕ)} {forms : List NumberedLine} → Says bytes blank → AllSay (n + 1) lines forms → AllSay n (bytes ∷ lines) forms
-  line : {n : ℕ} {bytes : List ℕ} {x : Line} {lines : List (List ℕ)} {forms : List NumberedLine} → Says bytes (says x) → AllSay (n + 1) lines forms →
-      AllSay n (bytes ∷ lines) (on n x ∷ forms)
+  blank_line : {n : ℕ} {bytes : List ℕ} {lines : List (List ℕ)} {forms : List NumberedLine} →
+      Says bytes blank → AllSay (n + 1) lines forms → AllSay n (bytes ∷ lines) forms
+  line : {n : ℕ} {bytes : List ℕ} {x : Line} {lines : List (List ℕ)} {forms : List NumberedLine} →
+      Says bytes (says x) → AllSay (n + 1) lines forms → AllSay n (bytes ∷ lines) (on n x ∷ forms)
 
 abbrev pub refusal_at : LineRefusal → ℕ → SyntaxRefusal
 refusal_at too_deep n = refusal.TooDeep n
 refusal_at not_a_line n = refusal.NotALine n
 refusal_at too_wide n = refusal.NumberTooWide n
 
--- FirstLineRefusal n lines r: r is the refusal of the first of the lines that is refused by itself, the first line having the number n.
+-- FirstLineRefusal n lines r: r is the refusal of the first of the lines that is refused by itself, the first line having the
+-- number n.
 pub data FirstLineRefusal : ℕ → List (List ℕ) → SyntaxRefusal → Type 0 where
-  here : {n : ℕ} {bytes : List ℕ} {lines : List (List ℕ)} {f : LineRefusal} → Says bytes (refused f) → FirstLineRefusal n (bytes ∷ lines) (refusal_at f n)
-  after_blank : {n : ℕ} {bytes : List ℕ} {lines : List (List ℕ)} {r : SyntaxRefusal} → Says bytes blank → FirstLineRefusal (n + 1) lines r → FirstLineRefusal n (bytes ∷ lines) r
-  after_line : {n : ℕ} {bytes : List ℕ} {x : Line} {lines : List (List ℕ)} {r : SyntaxRefusal} → Says bytes (says x) → FirstLineRefusal (n + 1) lines r →
-      FirstLineRefusal n (bytes ∷ lines) r
+  here : {n : ℕ} {bytes : List ℕ} {lines : List (List ℕ)} {f : LineRefusal} →
+      Says bytes (refused f) → FirstLineRefusal n (bytes ∷ lines) (refusal_at f n)
+  after_blank : {n : ℕ} {bytes : List ℕ} {lines : List (List ℕ)} {r : SyntaxRefusal} →
+      Says bytes blank → FirstLineRefusal (n + 1) lines r → FirstLineRefusal n (bytes ∷ lines) r
+  after_line : {n : ℕ} {bytes : List ℕ} {x : Line} {lines : List (List ℕ)} {r : SyntaxRefusal} →
+      Says bytes (says x) → FirstLineRefusal (n + 1) lines r → FirstLineRefusal n (bytes ∷ lines) r
 
--- The text spells the program: it is UTF-8, each of its lines is blank or has a form within the limits, and the lines nest to the program.
+-- The text spells the program: it is UTF-8, each of its lines is blank or has a form within the limits, and the lines nest to
+-- the program.
 pub record SpellsProgram (text : List ℕ) (program : ProgramTree) : Type 0 where
   pub utf8 : IsUtf8 text
   pub forms : List NumberedLine
   pub lines : AllSay 1 (lines_of text) forms
   pub nests : Nests most_blocks program forms
 
--- The first refusal of a text: that it isn't UTF-8; then the first line that is refused by itself; then the first line that breaks the nesting.
+-- The first refusal of a text: that it isn't UTF-8; then the first line that is refused by itself; then the first line that
+-- breaks the nesting.
 pub data FirstRefusal : List ℕ → SyntaxRefusal → Type 0 where
   not_utf8 : {text : List ℕ} {byte : ℕ} → (IsUtf8 text → ⊥) → IsBadByte text byte → FirstRefusal text (refusal.NotUtf8 byte)
   refused_line : {text : List ℕ} {r : SyntaxRefusal} → IsUtf8 text → FirstLineRefusal 1 (lines_of text) r → FirstRefusal text r

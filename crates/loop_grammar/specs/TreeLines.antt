@@ -47,7 +47,8 @@ branch_layer b first rest = on b.line (test_line first b.test) ∷ all_before b.
 abbrev pub statement_layer : Statement-F Before (Bool → Before) → Before
 statement_layer (s.Let n names p) rest = on n (l.Let names p) ∷ rest
 statement_layer (s.Set n name p) rest = on n (l.Set name p) ∷ rest
-statement_layer (s.If n branches else_line other m) rest = branches_before branches (else_before else_line other (on m l.End ∷ rest))
+statement_layer (s.If n branches else_line other m) rest =
+    branches_before branches (else_before else_line other (on m l.End ∷ rest))
 statement_layer (s.Keep n name p) rest = on n (l.Keep name p) ∷ rest
 statement_layer (s.Reduce n name p start) rest = on n (l.Reduce name p start) ∷ rest
 statement_layer (s.Continue n) rest = on n l.Continue ∷ rest

@@ -1,6 +1,8 @@
--- What every program is, as one computed test on trees: its names, literals and numbers of parts, the order of its lines, and the limits.
+-- What every program is, as one computed test on trees: its names, literals and numbers of parts, the order of its lines, and
+-- the limits.
 -- Source: this project's language.
-use Rattle.std.specs.Prelude.{ℕ, zero, suc, ◌==◌, nat_lt, nat_le, Bool, true, false, not, ◌&&◌, List, [], ◌∷◌, length, map, Option, Some, None, is_some, ℤ, pos, negsuc, ◌^◌}
+use Rattle.std.specs.Prelude.{ℕ, zero, suc, ◌==◌, nat_lt, nat_le, Bool, true, false, not, ◌&&◌, List, [], ◌∷◌, length, map}
+use Rattle.std.specs.Prelude.{Option, Some, None, is_some, ℤ, pos, negsuc, ◌^◌}
 use Rattle.std.specs.List.{list_all}
 use Rattle.std.specs.Str.{is_utf8}
 use Rattle.loop_tokens.specs.Bytes.{is_letter, is_word_byte}
@@ -205,7 +207,8 @@ other_fits (suc n) fs room = all_fit fs room
 
 abbrev pub if_fits : ℕ → List BranchFits → ℕ → List Fits → Fits
 if_fits n branches else_line other zero = false
-if_fits n branches else_line other (suc room) = starts_at n branches && (branches_fit branches room && other_fits else_line other room)
+if_fits n branches else_line other (suc room) =
+    starts_at n branches && (branches_fit branches room && other_fits else_line other room)
 
 abbrev pub fits_layer : Statement-F Fits BranchFits → Fits
 fits_layer (s.If n branches else_line other m) room = if_fits n branches else_line other room

@@ -13,8 +13,8 @@ pub enum SyntaxRefusal {
     NotALine { line: u32 },
     /// 3: the line stands at no place of a program where it may; or, with the number of lines plus one, the file ends too early.
     BadNesting { line: u32 },
-    /// 4: over 256 of the line's tokens are no parentheses, over 256 parentheses are open at one place, over 4 groups are nested in its
-    /// tower, or it opens a 17th block.
+    /// 4: over 256 of the line's tokens are no parentheses, over 256 parentheses are open at one place, over 4 groups are nested
+    /// in its tower, or it opens a 17th block.
     TooDeep { line: u32 },
     /// 5: a number of the line is over 9223372036854775807, or, in a negative literal, over 9223372036854775808.
     NumberTooWide { line: u32 },

@@ -50,8 +50,10 @@ PatternAt ts x = SpellsPattern x.0 ts x.1
 
 -- what is spelled as a literal is determined by the tokens
 abbrev pub OneLiteral : Type 0
-OneLiteral = (ts rest also : List Token) (v w : Value) (wide too : Bool) → SpellsLiteral v wide ts rest → SpellsLiteral w too ts also → (v ≡ w) × (wide ≡ too) × (rest ≡ also)
+OneLiteral = (ts rest also : List Token) (v w : Value) (wide too : Bool) →
+    SpellsLiteral v wide ts rest → SpellsLiteral w too ts also → (v ≡ w) × (wide ≡ too) × (rest ≡ also)
 
 -- what is spelled as a pattern is determined by the tokens
 abbrev pub OnePattern : Type 0
-OnePattern = (ts rest also : List Token) (ns ms : List (List ℕ)) → SpellsPattern ns ts rest → SpellsPattern ms ts also → (ns ≡ ms) × (rest ≡ also)
+OnePattern = (ts rest also : List Token) (ns ms : List (List ℕ)) →
+    SpellsPattern ns ts rest → SpellsPattern ms ts also → (ns ≡ ms) × (rest ≡ also)

@@ -26,18 +26,21 @@ pub record EndsRange (rest : List Token) : Type 0 where
   pub no_colon : NotFirst (tok.Sign sg.Colon) rest
 
 -- the tokens up to the rest spell something that ends with a range, as far as one can go
-pub record Ended {A : Type 0} (S : A → Bool → List Token → List Token → Type 0) (ts : List Token) (x : A × Bool × List Token) : Type 0 where
+pub record Ended {A : Type 0} (S : A → Bool → List Token → List Token → Type 0) (ts : List Token)
+    (x : A × Bool × List Token) : Type 0 where
   pub spelled : S x.0 x.1 ts x.2
   pub ends : EndsRange x.2
 
 -- items with commas between them
-pub data Listed {A : Type 0} (S : A → Bool → List Token → List Token → Type 0) : List A → Bool → List Token → List Token → Type 0 where
+pub data Listed {A : Type 0} (S : A → Bool → List Token → List Token → Type 0) :
+    List A → Bool → List Token → List Token → Type 0 where
   last : {x : A} {u : Bool} {ts rest : List Token} → S x u ts rest → Listed S (x ∷ []) u ts rest
-  more : {x : A} {xs : List A} {u v : Bool} {ts us rest : List Token} → S x u ts (tok.Sign sg.Comma ∷ us) → Listed S xs v us rest →
-      Listed S (x ∷ xs) (u || v) ts rest
+  more : {x : A} {xs : List A} {u v : Bool} {ts us rest : List Token} →
+      S x u ts (tok.Sign sg.Comma ∷ us) → Listed S xs v us rest → Listed S (x ∷ xs) (u || v) ts rest
 
 -- the tokens up to the rest spell items, and `all` is those behind the ones found before
-pub record Behind {A : Type 0} (S : A → Bool → List Token → List Token → Type 0) (found : List A) (wide : Bool) (ts : List Token) (x : List A × Bool × List Token) : Type 0 where
+pub record Behind {A : Type 0} (S : A → Bool → List Token → List Token → Type 0) (found : List A) (wide : Bool)
+    (ts : List Token) (x : List A × Bool × List Token) : Type 0 where
   pub items : List A
   pub flag : Bool
   pub joined : x.0 ≡ found ++ items
@@ -45,13 +48,15 @@ pub record Behind {A : Type 0} (S : A → Bool → List Token → List Token →
   pub spelled : Listed S items flag ts x.2
 
 -- the same where no more items can follow
-pub record BehindEnd {A : Type 0} (S : A → Bool → List Token → List Token → Type 0) (found : List A) (wide : Bool) (ts : List Token) (x : List A × Bool × List Token) : Type 0 where
+pub record BehindEnd {A : Type 0} (S : A → Bool → List Token → List Token → Type 0) (found : List A) (wide : Bool)
+    (ts : List Token) (x : List A × Bool × List Token) : Type 0 where
   pub behind : Behind S found wide ts x
   pub ends : EndsRange x.2
   pub no_comma : NotFirst (tok.Sign sg.Comma) x.2
 
 -- two to four items between parentheses
-pub record Between {A : Type 0} (S : A → Bool → List Token → List Token → Type 0) (ts : List Token) (x : List A × Bool × List Token) : Type 0 where
+pub record Between {A : Type 0} (S : A → Bool → List Token → List Token → Type 0) (ts : List Token)
+    (x : List A × Bool × List Token) : Type 0 where
   pub inside : List Token
   pub opened : ts ≡ tok.Sign sg.Open ∷ inside
   pub least : 2 ≤ length x.0
@@ -80,4 +85,5 @@ HeadsAt ts x = SpellsHeads x.0 x.1 ts
 
 -- the heads that are spelled are determined by the tokens
 abbrev pub OneHeads : Type 0
-OneHeads = (ts : List Token) (h k : Heads) (wide too : Bool) → SpellsHeads h wide ts → SpellsHeads k too ts → (h ≡ k) × (wide ≡ too)
+OneHeads = (ts : List Token) (h k : Heads) (wide too : Bool) →
+    SpellsHeads h wide ts → SpellsHeads k too ts → (h ≡ k) × (wide ≡ too)

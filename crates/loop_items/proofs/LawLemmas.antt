@@ -5,17 +5,18 @@ use Rattle.std.specs.Ordering.{int_eq}
 use Rattle.std.proofs.lemmas.Int.{ints}
 use Rattle.std.proofs.lemmas.Bool.Decides.{nat_tests}
 use Rattle.std.proofs.lemmas.List.Elements.{All-cons, All-head, All-nil, All-tail, Contains-append_right}
-use Rattle.number_ranges.specs.Ranges.{range_count}
-use Rattle.splittable.specs.Ranges.{most_items}
+use Rattle.number_ranges.specs.Ranges.{range_count, most_items}
 use Rattle.splittable.specs.Places.{excess_of, first_excess, item_count}
 use Rattle.loop_meaning.specs.Items.{all_items, axis_items, items_of, sources_of}
 use Rattle.loop_items.specs.declared.refusal.HeadRefusal.{HeadRefusal}
 use Rattle.loop_items.specs.declared.refusal.HeadRefusal.TheVariants as refused
 use Rattle.loop_items.specs.Collected.{Collection, column, range}
+use Rattle.loop_items.specs.Heads.{Head, head_of}
 use Rattle.loop_items.specs.Laws.{AxesCountItems, HoldsRange, IsReason, MayBeGoneOver, NoneIsRefused, RefusalsHaveReasons, RefusalsHaveTheLine, collections_of, line_of}
 use Rattle.loop_items.specs.Refusals.{axis_lens, collection_refusal, first_refusal, or_else, product_refusal}
 use Rattle.splittable.proofs.Excess.{shortest_excess}
-use Rattle.loop_items.proofs.Counted.{joined_counts, lists_counted, lists_many}
+use Rattle.loop_meaning.proofs.CountLemmas.{all_counted}
+use Rattle.loop_items.proofs.Counted.{joined_counts, lists_many}
 use Rattle.loop_items.proofs.HeadForms.{has_axes, head_is_head}
 
 is_zero : (n : ℤ) → int_eq n (pos 0) ≡ true → n ≡ pos 0
@@ -83,44 +84,44 @@ all_fine line (c ∷ cs) h =
 first_holds : (c : Collection) (cs : List Collection) → Contains (c ∷ cs) c
 first_holds c cs = (0, omega arith, refl)
 
-reason_at : (line n : ℕ) (first step last : ℤ) (cs : List Collection) (count : ℕ) (r : HeadRefusal) (none over : Bool) →
-    range_count first step last ≡ n → int_eq step (pos 0) ≡ none → nat_lt most_items n ≡ over → range_at line n none over ≡ Some r → IsReason r (range first step last ∷ cs) count
-reason_at line n first step last cs count r true over counted none is e =
+reason_at : (line n : ℕ) (first step last : ℤ) (cs : List Collection) (head : Head) (r : HeadRefusal) (none over : Bool) →
+    range_count first step last ≡ n → int_eq step (pos 0) ≡ none → nat_lt most_items n ≡ over → range_at line n none over ≡ Some r → IsReason r (range first step last ∷ cs) head
+reason_at line n first step last cs head r true over counted none is e =
     let same : refused.ZeroStep line ≡ r = cc e in
     let P : ℤ → Type 0 = λ s. Contains (range first step last ∷ cs) (range first s last) in
-    let Q : HeadRefusal → Type 0 = λ q. IsReason q (range first step last ∷ cs) count in
+    let Q : HeadRefusal → Type 0 = λ q. IsReason q (range first step last ∷ cs) head in
     subst Q same (first, last, subst P (is_zero step none) (first_holds (range first step last) cs))
-reason_at line n first step last cs count r false true counted none is e =
+reason_at line n first step last cs head r false true counted none is e =
     let same : refused.TooManyItems n line ≡ r = cc e in
-    let Q : HeadRefusal → Type 0 = λ q. IsReason q (range first step last ∷ cs) count in
+    let Q : HeadRefusal → Type 0 = λ q. IsReason q (range first step last ∷ cs) head in
     subst Q same (is_over n is, inl (record { first = first; step = step; last = last; held = first_holds (range first step last) cs; counted = counted }))
-reason_at line n first step last cs count r false false counted none is e = absurd (cc e)
+reason_at line n first step last cs head r false false counted none is e = absurd (cc e)
 
-reason_of : (line : ℕ) (c : Collection) (cs : List Collection) (count : ℕ) (r : HeadRefusal) → collection_refusal line c ≡ Some r → IsReason r (c ∷ cs) count
-reason_of line (range first step last) cs count r e =
-    let n = range_count first step last in reason_at line n first step last cs count r (int_eq step (pos 0)) (nat_lt most_items n) refl refl refl e
-reason_of line (column name None) cs count r e =
+reason_of : (line : ℕ) (c : Collection) (cs : List Collection) (head : Head) (r : HeadRefusal) → collection_refusal line c ≡ Some r → IsReason r (c ∷ cs) head
+reason_of line (range first step last) cs head r e =
+    let n = range_count first step last in reason_at line n first step last cs head r (int_eq step (pos 0)) (nat_lt most_items n) refl refl refl e
+reason_of line (column name None) cs head r e =
     let same : refused.NoSuchColumn name line ≡ r = cc e in
-    let Q : HeadRefusal → Type 0 = λ q. IsReason q (column name None ∷ cs) count in subst Q same (first_holds (column name None) cs)
-reason_of line (column name (Some texts)) cs count r e = absurd (cc e)
+    let Q : HeadRefusal → Type 0 = λ q. IsReason q (column name None ∷ cs) head in subst Q same (first_holds (column name None) cs)
+reason_of line (column name (Some texts)) cs head r e = absurd (cc e)
 
 -- a reason among some collections is one among more
 more_hold : (c : Collection) (cs : List Collection) (n : ℕ) → HoldsRange cs n → HoldsRange (c ∷ cs) n
 more_hold c cs n h =
     record { first = h.first; step = h.step; last = h.last; held = Contains-append_right (c ∷ []) cs (range h.first h.step h.last) h.held; counted = h.counted }
 
-reason_in_more : (c : Collection) (cs : List Collection) (count : ℕ) (r : HeadRefusal) → IsReason r cs count → IsReason r (c ∷ cs) count
-reason_in_more c cs count (refused.NoSuchColumn name line) h = Contains-append_right (c ∷ []) cs (column name None) h
-reason_in_more c cs count (refused.ZeroStep line) h = (h.0, h.1, Contains-append_right (c ∷ []) cs (range h.0 (pos 0) h.1) h.2)
-reason_in_more c cs count (refused.TooManyItems n line) h = (h.0, elim (h.1) [ inl held ↦ inl (more_hold c cs n held) | inr over ↦ inr over ])
-reason_in_more c cs count refused.NoMemory h = h
+reason_in_more : (c : Collection) (cs : List Collection) (head : Head) (r : HeadRefusal) → IsReason r cs head → IsReason r (c ∷ cs) head
+reason_in_more c cs head (refused.NoSuchColumn name line) h = Contains-append_right (c ∷ []) cs (column name None) h
+reason_in_more c cs head (refused.ZeroStep line) h = (h.0, h.1, Contains-append_right (c ∷ []) cs (range h.0 (pos 0) h.1) h.2)
+reason_in_more c cs head (refused.TooManyItems n line) h = (h.0, elim (h.1) [ inl held ↦ inl (more_hold c cs n held) | inr over ↦ inr over ])
+reason_in_more c cs head refused.NoMemory h = h
 
-reason_in : (line : ℕ) (cs : List Collection) (count : ℕ) (r : HeadRefusal) → first_refusal line cs ≡ Some r → IsReason r cs count
-reason_in line [] count r e = absurd (cc e)
-reason_in line (c ∷ cs) count r e =
+reason_in : (line : ℕ) (cs : List Collection) (head : Head) (r : HeadRefusal) → first_refusal line cs ≡ Some r → IsReason r cs head
+reason_in line [] head r e = absurd (cc e)
+reason_in line (c ∷ cs) head r e =
     elim (some_parts (collection_refusal line c) (first_refusal line cs) r e) [
-      | inl here ↦ reason_of line c cs count r here
-      | inr later ↦ reason_in_more c cs count r (reason_in line cs count r later)
+      | inl here ↦ reason_of line c cs head r here
+      | inr later ↦ reason_in_more c cs head r (reason_in line cs head r later)
     ]
 
 -- ---- the product
@@ -142,7 +143,7 @@ axes_count program table well =
     let sources = sources_of program table in
     let lists = all_items (map axis_items program.head.axes) sources in
     let one : program.head.product ≡ false → length lists ≡ 1 = λ e. lists_many program.head.axes sources ∙ axes.one e in
-    sym (joined_counts program.head.product lists one ∙ ap item_count (lists_counted program.head.axes sources))
+    sym (joined_counts program.head.product lists one ∙ ap item_count (all_counted program.head.axes sources))
 
 pub none_is_refused : NoneIsRefused
 none_is_refused program table well =
@@ -164,15 +165,17 @@ refusals_have_reasons program table r well e =
     let line = program.head.line in
     let cs = collections_of program table in
     let lens = axis_lens program.head (sources_of program table) in
-    let count = length (items_of program table) in
+    let head = head_of program table in
     let counted = axes_count program table well in
     elim (some_parts (first_refusal line cs) (product_refusal line (excess_of lens)) r e) [
-      | inl here ↦ reason_in line cs count r here
+      | inl here ↦ reason_in line cs head r here
       | inr later ↦
           let told = product_over line (first_excess lens) (nat_lt most_items (item_count lens)) r later in
           let over : most_items < item_count lens = is_over (item_count lens) told.0 in
-          let Q : HeadRefusal → Type 0 = λ q. IsReason q cs count in
-          subst Q told.1 ((shortest_excess lens over).over, inr (omega (arith, over, counted)))
+          let Q : HeadRefusal → Type 0 = λ q. IsReason q cs head in
+          let many : most_items < length (items_of program table) = omega (arith, over, counted) in
+          let first = shortest_excess lens over in
+          subst Q told.1 (first.over, inr (record { items = many; first_axes = first }))
     ]
 
 -- ---- lines

@@ -2,7 +2,7 @@
 use Rattle.std.proofs.Common.{◌≡◌, ℕ, ◌≤◌, Bool, true, false, List, [], ◌∷◌, length, map, Option, Some, None, Result, Ok, Err, refl, ap, ap₂, sym, subst, ◌∙◌, arith}
 use Rattle.std.specs.Prelude.{if◌then◌else◌, nat_lt}
 use Rattle.std.proofs.lemmas.Bool.Decides.{nat_tests}
-use Rattle.splittable.specs.Ranges.{most_items}
+use Rattle.number_ranges.specs.Ranges.{most_items}
 use Rattle.splittable.specs.Places.{checked_shape, excess_of, first_excess, item_count}
 use Rattle.splittable.specs.declared.shapes.ShapeRefusal.{ShapeRefusal}
 use Rattle.splittable.specs.declared.shapes.ShapeRefusal.TheVariants.{TooManyAxes, TooManyItems}
@@ -21,7 +21,8 @@ use Rattle.loop_items.specs.Heads.{head_of, opened}
 use Rattle.loop_items.specs.Opening.{AreOpen}
 use Rattle.loop_items.specs.Refusals.{axis_lens, first_refusal, head_refusal, or_else, product_refusal, unless_refused}
 use Rattle.loop_items.specs.Collected.{all_collected}
-use Rattle.loop_items.proofs.Counted.{lists_counted, lists_many}
+use Rattle.loop_meaning.proofs.CountLemmas.{all_counted}
+use Rattle.loop_items.proofs.Counted.{lists_many}
 use Rattle.loop_items.proofs.HeadForms.{HasAxes}
 use Rattle.loop_items.proofs.OpeningLemmas.{was_fine, was_refused}
 
@@ -112,7 +113,7 @@ module _ (program : ProgramTree) (table : Contents) where
 
   module _ (lists : List (List Value)) (fine : AreOpen program.head.line program.head.axes (sources_of program table) lists) where
     lens_are : map length lists ≡ axis_lens program.head (sources_of program table)
-    lens_are = ap (map length) fine.values ∙ lists_counted program.head.axes from
+    lens_are = ap (map length) fine.values ∙ all_counted program.head.axes from
 
     -- no axis is refused, so the product decides
     product_decides : head_refusal program.head (sources_of program table) ≡ product_refusal program.head.line (excess_of (map length lists))

@@ -1,5 +1,5 @@
 -- Walks from item to item.
-use Rattle.std.proofs.Common.{◌≡◌, ℕ, zero, suc, ◌+◌, ◌-◌, ◌%◌, ◌/◌, ◌<◌, ◌≤◌, List, [], ◌∷◌, ◌++◌, length, take, drop, replicate, Some, refl, ap, sym, subst, ◌∙◌, arith}
+use Rattle.std.proofs.Common.{◌≡◌, ℕ, zero, suc, ◌+◌, ◌-◌, ◌%◌, ◌/◌, ◌<◌, ◌≤◌, List, [], ◌∷◌, ◌++◌, length, take, drop, min, length-take, length-drop, replicate, Some, refl, ap, sym, subst, ◌∙◌, arith}
 use Rattle.std.specs.Prelude.{slice_get}
 use Rattle.std.proofs.Math.Seq.{drop-cons}
 use Rattle.std.proofs.lemmas.Option.{get_or_from_slice_get, slice_get_within}
@@ -75,3 +75,11 @@ one_taken items item place end low high is =
     ∙ ap (take (suc (end - (place + 1)))) (drop-cons items (place - 1) item within)
     ∙ ap (λ x. x ∷ take (end - (place + 1)) (drop (suc (place - 1)) items)) (get_or_from_slice_get items (place - 1) item item is)
     ∙ ap (λ n. item ∷ take (end - (place + 1)) (drop n items)) next
+
+-- before its end a walk has an item
+pub some_left : (items : List Value) (place end : ℕ) → 1 ≤ place → place < end → end ≤ length items + 1 → items_from items place (end - place) ≡ [] → ⊥
+some_left items place end low before within none =
+    let many : length (take (end - place) (drop (place - 1) items)) ≡ min (end - place) (length (drop (place - 1) items)) = length-take (end - place) (drop (place - 1) items) in
+    let rest : length (drop (place - 1) items) ≡ length items - (place - 1) = length-drop (place - 1) items in
+    let taken : length (take (end - place) (drop (place - 1) items)) ≡ 0 = ap length none in
+    omega (arith, taken, many, rest, low, before, within)

@@ -1,9 +1,9 @@
 -- Laws of heads: when they are refused, and which items their parts have.
 -- Source: this project.
 use Rattle.std.specs.Prelude.{◌≡◌, ◌≢◌, ◌≤◌, ◌<◌, ◌↔◌, ◌⊎◌, ◌+◌, ◌-◌, ℕ, true, List, ◌++◌, length, map, Option, Some, None, IsSome, All, Contains, slice_get, ℤ, pos}
-use Rattle.number_ranges.specs.Ranges.{range_count}
-use Rattle.splittable.specs.Ranges.{most_items}
+use Rattle.number_ranges.specs.Ranges.{range_count, most_items}
 use Rattle.splittable.specs.Places.{item_count}
+use Rattle.splittable.specs.Laws.{IsShortestExcess}
 use Rattle.splittable.specs.Parts.{Stretch, part_places, whole_of}
 use Rattle.column_input.specs.Table.{Contents}
 use Rattle.loop_data.specs.declared.value.Value.{Value}
@@ -13,6 +13,7 @@ use Rattle.loop_meaning.specs.Items.{items_of, sources_of}
 use Rattle.loop_items.specs.declared.refusal.HeadRefusal.{HeadRefusal}
 use Rattle.loop_items.specs.declared.refusal.HeadRefusal.TheVariants as refused
 use Rattle.loop_items.specs.Collected.{Collection, column, head_collected, range}
+use Rattle.loop_items.specs.Heads.{Head, head_of}
 use Rattle.loop_items.specs.Refusals.{axis_lens, first_head_refusal}
 use Rattle.loop_items.specs.Walks.{items_from, part_items}
 
@@ -57,18 +58,25 @@ pub record HoldsRange (collections : List Collection) (count : ℕ) : Type 0 whe
   pub held : Contains collections (range first step last)
   pub counted : range_count first step last ≡ count
 
--- the reason of a refusal, in the collections of a head and in how many items it has: a column that isn't there, a range of step 0,
--- or a range of too many numbers or too many items
-abbrev pub IsReason : HeadRefusal → List Collection → ℕ → Type 0
-IsReason (refused.NoSuchColumn name line) collections count = Contains collections (column name None)
-IsReason (refused.ZeroStep line) collections count = (first : ℤ) × (last : ℤ) × Contains collections (range first (pos 0) last)
-IsReason (refused.TooManyItems n line) collections count = (most_items < n) × (HoldsRange collections n ⊎ (most_items < count))
-IsReason refused.NoMemory collections count = ⊥
+-- a head has too many items, and of its fewest first axes that have too many there are so many
+pub record HasTooMany (head : Head) (count : ℕ) : Type 0 where
+  pub items : most_items < length head.items
+  pub first_axes : IsShortestExcess head.lens count
+
+-- The reason of a refusal, in the collections of a head, in how long its axes are and in how many items it has: a column that
+-- isn't there, a range of step 0, a range of too many numbers, or too many items.
+abbrev pub IsReason : HeadRefusal → List Collection → Head → Type 0
+IsReason (refused.NoSuchColumn name line) collections head = Contains collections (column name None)
+IsReason (refused.ZeroStep line) collections head =
+    (first : ℤ) × (last : ℤ) × Contains collections (range first (pos 0) last)
+IsReason (refused.TooManyItems n line) collections head = (most_items < n) × (HoldsRange collections n ⊎ HasTooMany head n)
+IsReason refused.NoMemory collections head = ⊥
 
 -- each refusal has its reason, and the line of the `for`
 abbrev pub RefusalsHaveReasons : Type 0
 RefusalsHaveReasons = (program : ProgramTree) (table : Contents) (refusal : HeadRefusal) → is_well_formed program ≡ true →
-    first_head_refusal program table ≡ Some refusal → IsReason refusal (collections_of program table) (length (items_of program table))
+    first_head_refusal program table ≡ Some refusal →
+    IsReason refusal (collections_of program table) (head_of program table)
 
 abbrev pub RefusalsHaveTheLine : Type 0
 RefusalsHaveTheLine = (program : ProgramTree) (table : Contents) (refusal : HeadRefusal) →
@@ -83,7 +91,8 @@ PartsHaveItemsOfPlaces = (items : List Value) (part : Stretch) → 1 ≤ part.fi
 
 -- the whole has all items
 abbrev pub WholeHasAllItems : Type 0
-WholeHasAllItems = (items : List Value) (lens : List ℕ) → item_count lens ≡ length items → part_items items (whole_of lens) ≡ items
+WholeHasAllItems = (items : List Value) (lens : List ℕ) → item_count lens ≡ length items →
+    part_items items (whole_of lens) ≡ items
 
 -- the items of two parts next to each other, one after the other, are those from the first's place on
 abbrev pub NeighboursHaveItems : Type 0

@@ -2,8 +2,7 @@
 -- Source: this project.
 use Rattle.std.specs.Prelude.{ℕ, nat_lt, if◌then◌else◌, List, [], ◌∷◌, map, Option, Some, None, Result, Ok, Err, pos}
 use Rattle.std.specs.Ordering.{int_eq}
-use Rattle.number_ranges.specs.Ranges.{range_count}
-use Rattle.splittable.specs.Ranges.{most_items}
+use Rattle.number_ranges.specs.Ranges.{range_count, most_items}
 use Rattle.splittable.specs.Places.{excess_of}
 use Rattle.column_input.specs.Table.{Contents}
 use Rattle.loop_data.specs.declared.head.HeadLine.{HeadLine}
@@ -44,7 +43,8 @@ product_refusal line None = None
 
 abbrev pub head_refusal : HeadLine → Sources → Option HeadRefusal
 head_refusal head sources =
-    or_else (first_refusal head.line (head_collected head sources)) (product_refusal head.line (excess_of (axis_lens head sources)))
+    or_else (first_refusal head.line (head_collected head sources))
+    (product_refusal head.line (excess_of (axis_lens head sources)))
 
 -- the first refusal of a program's first head over a table
 abbrev pub first_head_refusal : ProgramTree → Contents → Option HeadRefusal

@@ -3,7 +3,7 @@
 ghost use Rattle.std.specs.Prelude.{◌≡◌, ◌≢◌, ◌≤◌, ◌-◌, true, Err, Some, All, IfOk, MatchResult, length, map, slice_get};
 ghost use Rattle.std.specs.List.{AllPass};
 ghost use Rattle.std.specs.FinMap.{get};
-ghost use Rattle.splittable.specs.Ranges.{most_items};
+ghost use Rattle.number_ranges.specs.Ranges.{most_items};
 ghost use Rattle.loop_data.specs.declared.value.Value.TheVariants as value;
 ghost use Rattle.loop_grammar.specs.WellFormed.{is_factor, is_plain};
 ghost use Rattle.loop_meaning.specs.Counts.{least_count};
@@ -39,7 +39,7 @@ enum Parts<'a> {
 impl<'a> Model for OpenAxis<'a> {
     ghost use Rattle.std.specs.Prelude.{◌≡◌, ◌≤◌, List, length};
     ghost use Rattle.std.specs.Coded.{coded_list};
-    ghost use Rattle.splittable.specs.Ranges.{most_items};
+    ghost use Rattle.number_ranges.specs.Ranges.{most_items};
     ghost use Rattle.loop_data.specs.declared.value.Value as value;
     ghost use Rattle.loop_data.specs.contracts.value.Value as row;
 

@@ -2,7 +2,7 @@
 
 ghost use Rattle.std.specs.Prelude.{◌≡◌, ◌≢◌, ◌≤◌, ◌-◌, true, Err, Some, IfOk, length, map, slice_get};
 ghost use Rattle.std.specs.FinMap.{get};
-ghost use Rattle.splittable.specs.Ranges.{most_items};
+ghost use Rattle.number_ranges.specs.Ranges.{most_items};
 ghost use Rattle.column_input.specs.Table.{column_of};
 ghost use Rattle.loop_data.specs.declared.value.Value.TheVariants as value;
 ghost use Rattle.loop_grammar.specs.WellFormed.{is_plain};
@@ -12,9 +12,9 @@ ghost use Rattle.loop_items.specs.Refusals.{collection_refusal, first_refusal, u
 ghost use Rattle.loop_items.specs.declared.refusal.HeadRefusal.TheVariants as refused;
 
 use crate::HeadRefusal;
-use crate::bounds::{number_of, step_number};
 use column_input::{Column, Table};
 use loop_data::{Axis, RangeExpr, TextValue, Value};
+use loop_meaning::bounds::{number_of, step_number};
 use loop_values::Env;
 use no_memory::NoMemory;
 use splittable::{Range, RangeRefusal, Splittable};
@@ -37,7 +37,7 @@ enum Held<'a> {
 impl<'a> Model for Collection<'a> {
     ghost use Rattle.std.specs.Prelude.{◌≡◌, ◌≤◌, List, length};
     ghost use Rattle.std.specs.Coded.{coded_list};
-    ghost use Rattle.splittable.specs.Ranges.{most_items};
+    ghost use Rattle.number_ranges.specs.Ranges.{most_items};
     ghost use Rattle.loop_data.specs.declared.value.Value as value;
     ghost use Rattle.loop_data.specs.contracts.value.Value as row;
 

@@ -3,7 +3,7 @@
 ghost use Rattle.std.specs.Prelude.{◌≡◌, ◌≢◌, ◌≤◌, ◌-◌, Err, Some, All, IfOk, MatchResult, length, map, slice_get};
 ghost use Rattle.std.specs.List.{AllPass};
 ghost use Rattle.std.specs.FinMap.{get};
-ghost use Rattle.splittable.specs.Ranges.{most_items};
+ghost use Rattle.number_ranges.specs.Ranges.{most_items};
 ghost use Rattle.splittable.specs.Places.{AreOnAxes, excess_of, item_count};
 ghost use Rattle.loop_grammar.specs.WellFormed.{is_factor};
 ghost use Rattle.loop_meaning.specs.Items.{sources};
@@ -15,10 +15,10 @@ ghost use Rattle.loop_items.specs.Walks.{part_items};
 ghost use Rattle.loop_items.specs.declared.refusal.HeadRefusal.TheVariants as refused;
 
 use crate::axes::OpenAxis;
-use crate::bounds::variables;
 use crate::{HeadRefusal, Walk};
 use column_input::Table;
 use loop_data::{Axis, Many, Value};
+use loop_meaning::variables;
 use loop_syntax::Program;
 use loop_values::Env;
 use no_memory::NoMemory;
@@ -50,8 +50,8 @@ impl<'a> Model for HeadItems<'a> {
 }
 
 impl<'a> HeadItems<'a> {
-    /// The program's first head over the table. A program that breaks the language's rules is opened too: a bound that faults or is no
-    /// number counts as 0, as in the definition of the items.
+    /// The program's first head over the table. A program that breaks the language's rules is opened too: a bound that faults
+    /// or is no number counts as 0, as in the definition of the items.
     ///
     /// # Errors
     ///
@@ -63,8 +63,9 @@ impl<'a> HeadItems<'a> {
     ) -> Result<HeadItems<'a>, HeadRefusal>
         ensures { result ≢ Err refused.NoMemory → result ≡ opened program.now table.now }
     {
-        let head = &program.tree().head;
-        let names = variables(alloc, program)?;
+        let tree = program.tree();
+        let names = variables(alloc, tree)?;
+        let head = &tree.head;
         let axes = open_axes(alloc, head.axes.as_slice(), head.line, &names, table)?;
         let shape = shape_of(alloc, axes.as_slice(), head.line)?;
         Ok(HeadItems {

@@ -1,5 +1,5 @@
-//! The first head of a program over a table: opened once, refused where no loop may run over it, and read by place, with no list of
-//! its items.
+//! The first head of a program over a table: opened once, refused where no loop may run over it, and read by place, with no
+//! list of its items.
 //!
 //! The definitions stand in specs/: which collections a head names (Collected), its first refusal (Refusals), and what contracts
 //! see of an open head and of a walk (Heads). What follows from them stands in [`laws`].
@@ -14,7 +14,6 @@
 #![tactic(auto)]
 
 mod axes;
-mod bounds;
 mod collections;
 mod heads;
 pub mod laws;

@@ -5,6 +5,7 @@ ghost use Rattle.loop_items.specs.declared.refusal.HeadRefusal.TheVariants as re
 
 use loop_data::TextValue;
 use no_memory::NoMemory;
+use number_ranges::MOST_ITEMS;
 use std::alloc::AllocError;
 use std::fmt;
 
@@ -39,7 +40,7 @@ impl fmt::Display for HeadRefusal {
             }
             HeadRefusal::ZeroStep { line } => write!(f, "line {line}: step is zero"),
             HeadRefusal::TooManyItems { count, line } => {
-                write!(f, "line {line}: {count} items, at most 4294967296")
+                write!(f, "line {line}: {count} items, at most {MOST_ITEMS}")
             }
             HeadRefusal::NoMemory => f.write_str("out of memory"),
         }

@@ -1,6 +1,6 @@
 //! Walks along neighbouring items.
 
-ghost use Rattle.std.specs.Prelude.{◌≡◌, ◌≤◌, IfOk, OnErr, length};
+ghost use Rattle.std.specs.Prelude.{◌≡◌, ◌≤◌, [], Ok, None, IfOk, OnErr, length};
 ghost use Rattle.splittable.specs.Fields.{padded};
 ghost use Rattle.splittable.specs.Places.{item_count};
 ghost use Rattle.loop_items.specs.Places.{next_places};
@@ -67,9 +67,11 @@ impl<'h, 't> Walk<'h, 't> {
         }
     }
 
-    /// The next item, and None where there is none left. Refused only for want of memory: then the walk is as it was.
+    /// The next item, and None where there is none left, which takes no memory. Refused only for want of memory: then the
+    /// walk is as it was.
     pub fn next(&mut self, alloc: Global) -> Result<Option<Value>, NoMemory>
         ensures taken { IfOk result (λ taken. IsTaken taken self.old self.new) }
+        ensures ended { self.old ≡ [] → result ≡ Ok None }
         ensures kept { OnErr result (self.new ≡ self.old) }
     {
         if self.place == self.end {

@@ -1,6 +1,8 @@
--- The canonical text of a program: each line on its own number, two spaces for each open block, one space between tokens but where the rules say none.
+-- The canonical text of a program: each line on its own number, two spaces for each open block, one space between tokens but
+-- where the rules say none.
 -- Source: this project's language.
-use Rattle.std.specs.Prelude.{ℕ, suc, ◌*◌, Bool, true, false, List, [], ◌∷◌, ◌++◌, map, replicate, Option, Some, None, ℤ, pos, negsuc, if◌then◌else◌, codes}
+use Rattle.std.specs.Prelude.{ℕ, suc, ◌*◌, Bool, true, false, List, [], ◌∷◌, ◌++◌, map, replicate, Option, Some, None}
+use Rattle.std.specs.Prelude.{ℤ, pos, negsuc, if◌then◌else◌, codes}
 use Rattle.std.specs.Fmt.{signed_decimal}
 use Rattle.loop_tokens.specs.declared.token.Token.{Token}
 use Rattle.loop_tokens.specs.declared.token.Token.TheVariants as tok
@@ -112,8 +114,8 @@ word_token w.Int = tok.Keyword kw.Int
 word_token w.TryInt = tok.Keyword kw.TryInt
 word_token w.Text = tok.Keyword kw.Text
 
--- What is written of an expression: as a whole place, where an operation has no parentheses round it, and as a part of another one. An Int literal is told apart, since unary
--- minus before it wants parentheses.
+-- What is written of an expression: as a whole place, where an operation has no parentheses round it, and as a part of another
+-- one. An Int literal is told apart, since unary minus before it wants parentheses.
 pub record WrittenExpr : Type 0 where
   pub whole : Written
   pub part : Written
@@ -165,7 +167,8 @@ write_step (e.Not p) = operation (λ a. first a (tok.Keyword kw.Not) ∷ p.part 
 write_step (e.Two o p q) = if is_extreme o then simple (called (op_token o) (parts_marks (p ∷ q ∷ [])))
     else operation (λ a. p.part a ++ apart (op_token o) ∷ q.part true)
 write_step (e.Call word p) = simple (called (word_token word) (p.whole false))
-write_step (e.If c p q) = operation (λ a. first a (tok.Keyword kw.If) ∷ c.part true ++ apart (tok.Keyword kw.Then) ∷ p.part true ++ apart (tok.Keyword kw.Else) ∷ else_marks q)
+write_step (e.If c p q) = operation (λ a. first a (tok.Keyword kw.If) ∷ c.part true ++
+    apart (tok.Keyword kw.Then) ∷ p.part true ++ apart (tok.Keyword kw.Else) ∷ else_marks q)
 write_step (e.Tuple ps) = simple (in_parentheses (λ a. parts_marks ps))
 
 abbrev pub written_expr : Expr → WrittenExpr
@@ -210,7 +213,8 @@ pattern_marks ns a = in_parentheses (listed (map name_marks ns)) a
 
 abbrev pub inner_marks : List Inner → List Mark
 inner_marks [] = []
-inner_marks (h ∷ hs) = glued comma ∷ apart (tok.Name h.name) ∷ apart (tok.Keyword kw.In) ∷ range_marks h.range true ++ inner_marks hs
+inner_marks (h ∷ hs) = glued comma ∷ apart (tok.Name h.name) ∷ apart (tok.Keyword kw.In) ∷ range_marks h.range true ++
+    inner_marks hs
 
 abbrev pub head_marks : List Axis → Bool → Written
 head_marks axes true = called (tok.Keyword kw.Product) (listed (map axis_marks axes) false)
@@ -267,7 +271,8 @@ abbrev pub line_marks : Line → List Mark
 line_marks l.SkipFaults = glued (tok.Name (codes "on")) ∷ apart (tok.Name (codes "fault")) ∷ apart (tok.Name (codes "skip")) ∷ []
 line_marks (l.Var n v) = glued (tok.Keyword kw.Var) ∷ apart (tok.Name n) ∷ apart (tok.Sign sg.Assign) ∷ value_marks v true
 line_marks (l.Init n v) = glued (tok.At at.Init) ∷ apart (tok.Name n) ∷ apart (tok.Sign sg.Assign) ∷ value_marks v true
-line_marks (l.For h) = glued (tok.Keyword kw.For) ∷ pattern_marks h.names true ++ apart (tok.Keyword kw.In) ∷ head_marks h.axes h.product true ++ inner_marks h.inner
+line_marks (l.For h) = glued (tok.Keyword kw.For) ∷ pattern_marks h.names true ++
+    apart (tok.Keyword kw.In) ∷ head_marks h.axes h.product true ++ inner_marks h.inner
 line_marks (l.Let ns p) = glued (tok.Keyword kw.Let) ∷ pattern_marks ns true ++ apart (tok.Sign sg.Assign) ∷ expr_marks p true
 line_marks (l.Set n p) = glued (tok.Name n) ∷ apart (tok.Sign sg.Assign) ∷ expr_marks p true
 line_marks (l.If p) = glued (tok.Keyword kw.If) ∷ expr_marks p true

@@ -48,7 +48,8 @@ ReadableTexts = (text : List ℕ) → IsReadable (tok.Text (escaped text)) × (t
 
 -- the digits of a number of 64 bits, which spell the number
 abbrev pub ReadableNumbers : Type 0
-ReadableNumbers = (n : ℕ) → n < 2 ^ 64 → IsReadable (tok.Number (signed_decimal (pos n))) × (number_of (signed_decimal (pos n)) ≡ n)
+ReadableNumbers = (n : ℕ) → n < 2 ^ 64 →
+    IsReadable (tok.Number (signed_decimal (pos n))) × (number_of (signed_decimal (pos n)) ≡ n)
 
 -- each token that a line holds
 abbrev pub ReadableHeld : Type 0
@@ -105,7 +106,9 @@ CanonicalSpaces = (form : Line) → AllReadable (tokens_in (line_marks form)) �
 -- What is written of a line that readable tokens spell is readable, and UTF-8 where these tokens are. It holds where a number is
 -- too wide as well, since 0 stands for it.
 abbrev pub CanonicalReadable : Type 0
-CanonicalReadable = (form : Line) (wide : Bool) (ts : List Token) → SpellsLine form wide ts → AllReadable ts → AreReadable (line_marks form)
+CanonicalReadable = (form : Line) (wide : Bool) (ts : List Token) →
+    SpellsLine form wide ts → AllReadable ts → AreReadable (line_marks form)
 
 abbrev pub CanonicalUtf8 : Type 0
-CanonicalUtf8 = (form : Line) (wide : Bool) (ts : List Token) → SpellsLine form wide ts → AllUtf8 ts → AllUtf8 (tokens_in (line_marks form))
+CanonicalUtf8 = (form : Line) (wide : Bool) (ts : List Token) →
+    SpellsLine form wide ts → AllUtf8 ts → AllUtf8 (tokens_in (line_marks form))

@@ -53,5 +53,6 @@ may_touch t u = is_edge t || (is_edge u || is_minus t)
 pub data AreReadable : List Mark → Type 0 where
   none : AreReadable []
   last : {m : Mark} → token_of (token_text m.token) ≡ Some m.token → AreReadable (m ∷ [])
-  more : {m n : Mark} {ms : List Mark} → token_of (token_text m.token) ≡ Some m.token → (n.apart || may_touch m.token n.token) ≡ true → AreReadable (n ∷ ms) →
+  more : {m n : Mark} {ms : List Mark} →
+      token_of (token_text m.token) ≡ Some m.token → (n.apart || may_touch m.token n.token) ≡ true → AreReadable (n ∷ ms) →
       AreReadable (m ∷ n ∷ ms)

@@ -7,7 +7,8 @@ pub record Row : Type 0 where
   pub line : ℕ
   pub bytes : List ℕ
 
--- The rows, each on its line, with empty lines between; n is the number of the first line that is written. Each line ends with LF.
+-- The rows, each on its line, with empty lines between; n is the number of the first line that is written. Each line ends with
+-- LF.
 abbrev pub rows_text : ℕ → List Row → List ℕ
 rows_text n [] = []
 rows_text n (r ∷ rs) = replicate (r.line - n) 10 ++ (r.bytes ++ 10 ∷ rows_text (r.line + 1) rs)

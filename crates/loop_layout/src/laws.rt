@@ -1,6 +1,8 @@
 //! Laws of the canonical text: public functions with no body, whose contracts are the laws.
 
-ghost use Rattle.loop_layout.specs.Laws.{LaidOut, ReadableWords, ReadableAtWords, ReadableSigns, ReadableTexts, ReadableNumbers, ReadableHeld, RowsAreLines, LaidOutLines, LaidOutUtf8, RowsUtf8, EscapedUtf8, NumbersUtf8, HeldUtf8, MeaningUtf8, CanonicalSpaces, CanonicalReadable, CanonicalUtf8};
+ghost use Rattle.loop_layout.specs.Laws.{LaidOut, ReadableWords, ReadableAtWords, ReadableSigns, ReadableTexts, ReadableNumbers};
+ghost use Rattle.loop_layout.specs.Laws.{ReadableHeld, RowsAreLines, LaidOutLines, LaidOutUtf8, RowsUtf8, EscapedUtf8};
+ghost use Rattle.loop_layout.specs.Laws.{NumbersUtf8, HeldUtf8, MeaningUtf8, CanonicalSpaces, CanonicalReadable, CanonicalUtf8};
 
 /// Tokens that are laid out as the canonical text has them are read back: the longest tokens of the line are just they.
 pub fn laid_out()

@@ -4,7 +4,8 @@ ghost use Rattle.std.specs.Prelude.{◌≡◌, ◌≢◌, ◌<◌, ◌≤◌, tr
 ghost use Rattle.loop_tokens.specs.Limits.{is_too_deep};
 ghost use Rattle.loop_grammar.specs.LineForms.{groups_in, line_groups};
 ghost use Rattle.loop_grammar.specs.Texts.{TokensSay, most_groups};
-ghost use Rattle.loop_lines.specs.Verdicts.{said, refusal_of, IsLineRefusal, IsVerdict, IsOwnRefusal, unless, OneVerdict, OneSaying};
+ghost use Rattle.loop_lines.specs.Verdicts.{said, refusal_of, IsLineRefusal, IsVerdict, IsOwnRefusal};
+ghost use Rattle.loop_lines.specs.Verdicts.{unless, OneVerdict, OneSaying};
 
 use crate::forms::form;
 use crate::front::is_end;
@@ -125,8 +126,8 @@ fn verdict(
 /// What the tokens of a line say: nothing where it is blank, or the line. `number` is the line's place in the text, from 1;
 /// the refusals carry it. The first that applies decides: `TooDeep` where the tokens pass the line's limits, `NotALine` where
 /// they don't go on to the line's end or spell no line, `TooDeep` where over 4 groups are nested in its tower,
-/// `NumberTooWide` where one of its numbers is; `NoMemory` for want of memory. Each token is read once; the recursion is bounded by
-/// the line's limits.
+/// `NumberTooWide` where one of its numbers is; `NoMemory` for want of memory. Each token is read once; the recursion is bounded
+/// by the line's limits.
 pub fn read_line(
     alloc: Global,
     number: u32,

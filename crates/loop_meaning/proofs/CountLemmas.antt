@@ -18,7 +18,7 @@ use Rattle.loop_meaning.specs.Items.{Listing, Sources, all_items, axis_items, ax
 use Rattle.loop_meaning.specs.Laws.{AxesAreCounted, ItemsAreCounted, ProductHoldsDigits, ZipHoldsItems, at_place}
 
 -- each row gives as many rows as there are values
-each_row : (xs : List Value) (rows : List (List Value)) → length (flat_map (λ row. map (λ x. x ∷ row) xs) rows) ≡ length xs * length rows
+pub each_row : (xs : List Value) (rows : List (List Value)) → length (flat_map (λ row. map (λ x. x ∷ row) xs) rows) ≡ length xs * length rows
 each_row xs [] = omega arith
 each_row xs (row ∷ rows) =
     let here : length (map (λ x. x ∷ row) xs) ≡ length xs = length-map xs (λ x. x ∷ row) in
@@ -27,7 +27,7 @@ each_row xs (row ∷ rows) =
     ∙ ap (λ n. length xs + n) (each_row xs rows)
     ∙ (omega arith)
 
-product_counts : (lists : List (List Value)) → length (combinations lists) ≡ product_of (map length lists)
+pub product_counts : (lists : List (List Value)) → length (combinations lists) ≡ product_of (map length lists)
 product_counts [] = refl
 product_counts (xs ∷ lists) = each_row xs (combinations lists) ∙ ap (λ n. length xs * n) (product_counts lists)
 
@@ -36,7 +36,7 @@ front_counts [] rows = omega arith
 front_counts (x ∷ xs) [] = omega arith
 front_counts (x ∷ xs) (row ∷ rows) = ap suc (front_counts xs rows) ∙ (omega arith)
 
-zip_counts : (lists : List (List Value)) → length (side_by_side lists) ≡ least_count (map length lists)
+pub zip_counts : (lists : List (List Value)) → length (side_by_side lists) ≡ least_count (map length lists)
 zip_counts [] = refl
 zip_counts (xs ∷ []) = length-map xs (λ x. x ∷ [])
 zip_counts (xs ∷ ys ∷ lists) = front_counts xs (side_by_side (ys ∷ lists)) ∙ ap (min (length xs)) (zip_counts (ys ∷ lists))
@@ -167,7 +167,7 @@ axes_counted = ind-Axis IsCounted (λ x y is sources.
 
 -- ---- heads
 
-all_counted : (axes : List Axis) (sources : Sources) → map length (all_items (map axis_items axes) sources) ≡ all_counts (map axis_count axes) sources
+pub all_counted : (axes : List Axis) (sources : Sources) → map length (all_items (map axis_items axes) sources) ≡ all_counts (map axis_count axes) sources
 all_counted [] sources = refl
 all_counted (x ∷ xs) sources = ap₂ (λ n ns. n ∷ ns) (axes_counted x sources) (all_counted xs sources)
 

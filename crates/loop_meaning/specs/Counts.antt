@@ -1,5 +1,5 @@
--- How many items a head has, by its axes: a range by its count, a column by its rows, a zip by its shortest part, a product by the
--- product of its axes. Source: Julia's ranges, `zip` and `Iterators.product`.
+-- How many items a head has, by its axes: a range by its count, a column by its rows, a zip by its shortest part, a product by
+-- the product of its axes. Source: Julia's ranges, `zip` and `Iterators.product`.
 use Rattle.std.specs.Prelude.{ℕ, ◌*◌, if◌then◌else◌, List, [], ◌∷◌, length, map, min, Option, Some, None, ℤ, pos}
 use Rattle.std.specs.Ordering.{int_eq}
 use Rattle.number_ranges.specs.Ranges.{range_count}

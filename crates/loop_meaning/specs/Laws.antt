@@ -1,13 +1,19 @@
 -- Laws of items, steps and runs.
 -- Source: this project.
-use Rattle.std.specs.Prelude.{◌≡◌, ◌≢◌, ◌≤◌, ◌<◌, ◌+◌, ◌-◌, ◌*◌, ◌^◌, ◌/◌, ◌%◌, ℕ, false, List, [], ◌∷◌, ◌++◌, length, Option, Some, None, option_and_then, slice_get, take}
+use Rattle.std.specs.Prelude.{◌≡◌, ◌≢◌, ◌≤◌, ◌<◌, ◌+◌, ◌-◌, ◌*◌, ◌^◌, ◌/◌, ◌%◌, ℕ, true, false, List, [], ◌∷◌, ◌++◌, length, map}
+use Rattle.std.specs.Prelude.{Option, Some, None, option_and_then, option_map, slice_get, take}
+use Rattle.number_ranges.specs.Ranges.{most_items}
 use Rattle.loop_data.specs.declared.value.Value.{Value}
+use Rattle.loop_data.specs.declared.value.Value.TheVariants.{Tuple}
 use Rattle.loop_data.specs.declared.head.Axis.{Axis}
+use Rattle.loop_data.specs.declared.head.Axis.TheVariants.{Zip}
 use Rattle.loop_data.specs.declared.head.Inner.{Inner}
 use Rattle.loop_data.specs.declared.statement.Statement.{Statement}
 use Rattle.loop_grammar.specs.SkippedFaults.{skips_faults}
 use Rattle.loop_grammar.specs.declared.tree.ProgramTree.{ProgramTree}
 use Rattle.loop_values.specs.Bindings.{Bindings}
+use Rattle.loop_values.specs.InnerItems.{inner_limit}
+use Rattle.tower_inputs.specs.Inputs.{most_sites}
 use Rattle.column_input.specs.Table.{Contents}
 use Rattle.loop_meaning.specs.declared.steps.BodyEnd.{BodyEnd}
 use Rattle.loop_meaning.specs.declared.steps.BodyEnd.TheVariants as end
@@ -15,8 +21,8 @@ use Rattle.loop_meaning.specs.declared.steps.BodyRun.{BodyRun}
 use Rattle.loop_meaning.specs.declared.steps.Pair.{Pair}
 use Rattle.loop_meaning.specs.declared.runs.PlainStop.{PlainStop}
 use Rattle.loop_meaning.specs.declared.runs.PlainStop.TheVariants.{Ran, Break, Fault}
-use Rattle.loop_meaning.specs.Counts.{axis_count, items_count}
-use Rattle.loop_meaning.specs.Items.{Sources, axis_items, combinations, items_of, side_by_side}
+use Rattle.loop_meaning.specs.Counts.{axis_count, items_count, least_count, product_of}
+use Rattle.loop_meaning.specs.Items.{Sources, all_items, axis_items, combinations, items_of, side_by_side, sources_of}
 use Rattle.loop_meaning.specs.Reducers.{inputs_of, sites_of}
 use Rattle.loop_meaning.specs.Runs.{followed_by, loop_run}
 use Rattle.loop_meaning.specs.Statements.{Action, block_run}
@@ -119,22 +125,22 @@ HeadsEmitBehind = (program : ProgramTree) (heads : List Inner) (width : ℕ) (be
 -- a step emits at most 1,000,000 inputs for each `@reduce` line
 abbrev pub StepsEmitFew : Type 0
 StepsEmitFew = (program : ProgramTree) (store : Bindings) (item : Value) (place : ℕ) →
-    length (body_step program store item place).emitted ≤ 1000000 * length (sites_of program)
+    length (body_step program store item place).emitted ≤ inner_limit * length (sites_of program)
 
 -- so at most 64,000,000 where there are at most 64 such lines
 abbrev pub StepsEmitAtMost : Type 0
 StepsEmitAtMost = (program : ProgramTree) (store : Bindings) (item : Value) (place : ℕ) →
-    length (sites_of program) ≤ 64 → length (body_step program store item place).emitted ≤ 64000000
+    length (sites_of program) ≤ most_sites → length (body_step program store item place).emitted ≤ inner_limit * most_sites
 
 -- a run emits at most so many for each of its items
 abbrev pub RunsEmitFew : Type 0
 RunsEmitFew = (program : ProgramTree) (store : Bindings) (items : List Value) (place : ℕ) →
-    length (loop_run program store items place).emitted ≤ length items * (1000000 * length (sites_of program))
+    length (loop_run program store items place).emitted ≤ length items * (inner_limit * length (sites_of program))
 
 -- a name of a program of at most 64 `@reduce` lines has below 2^58 inputs in a run over at most 2^32 items
 abbrev pub InputsAreFew : Type 0
 InputsAreFew = (program : ProgramTree) (store : Bindings) (items : List Value) (place : ℕ) (name : List ℕ) →
-    length (sites_of program) ≤ 64 → length items ≤ 4294967296 →
+    length (sites_of program) ≤ most_sites → length items ≤ most_items →
     length (inputs_of program (loop_run program store items place).emitted name) < 2 ^ 58
 
 -- the number of a fault's kind is from 1 to 5
@@ -188,3 +194,38 @@ at_digits (xs ∷ more) before =
 abbrev pub ProductHoldsDigits : Type 0
 ProductHoldsDigits = (lists : List (List Value)) (before : ℕ) →
     before < length (combinations lists) → slice_get (combinations lists) before ≡ at_digits lists before
+
+-- what each axis of a program's first head goes over, from left to right
+abbrev pub axes_of : ProgramTree → Contents → List (List Value)
+axes_of program table = all_items (map axis_items program.head.axes) (sources_of program table)
+
+-- The items are those of a product of these axes: the item at a place, from 1, is the tuple that holds each axis's item at the
+-- digits of the place less 1 (plus 1, as items count from 1), in the mixed base of the axes' counts, the first axis fastest; and
+-- there are as many as the product of the counts, and none beyond.
+pub record AreOfProduct (items : List Value) (axes : List (List Value)) : Type 0 where
+  pub holds : (place : ℕ) → 1 ≤ place → place ≤ length items →
+      slice_get items (place - 1) ≡ option_map Tuple (at_digits axes (place - 1))
+  pub many : length items ≡ product_of (map length axes)
+
+-- The items are those of a zip of these parts: the item at a place, from 1, is the tuple that holds each part's item at that
+-- place; and there are as many as the shortest part has, and none beyond.
+pub record AreOfZip (items : List Value) (parts : List (List Value)) : Type 0 where
+  pub holds : (place : ℕ) → 1 ≤ place → place ≤ length items →
+      slice_get items (place - 1) ≡ option_map Tuple (at_place parts (place - 1))
+  pub many : length items ≡ least_count (map length parts)
+
+-- the items of a head that is a product
+abbrev pub ProductHeads : Type 0
+ProductHeads = (program : ProgramTree) (table : Contents) → program.head.product ≡ true →
+    AreOfProduct (items_of program table) (axes_of program table)
+
+-- the items of an axis that is a zip, also of one of a product's
+abbrev pub ZipAxes : Type 0
+ZipAxes = (parts : List Axis) (sources : Sources) →
+    AreOfZip (axis_items (Zip parts) sources) (all_items (map axis_items parts) sources)
+
+-- the items of a head that is one zip
+abbrev pub ZipHeads : Type 0
+ZipHeads = (program : ProgramTree) (table : Contents) (parts : List Axis) →
+    program.head.product ≡ false → program.head.axes ≡ Zip parts ∷ [] →
+    AreOfZip (items_of program table) (all_items (map axis_items parts) (sources_of program table))

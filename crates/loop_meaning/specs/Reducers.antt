@@ -3,6 +3,7 @@
 use Rattle.std.specs.Prelude.{ℕ, Bool, if◌then◌else◌, not, List, [], ◌∷◌, ◌++◌, map, filter, Option, Some, None}
 use Rattle.std.specs.Str.{bytes_eq}
 use Rattle.loop_data.specs.declared.value.Value.{Value}
+use Rattle.loop_data.specs.declared.tower.TowerExpr.{TowerExpr}
 use Rattle.loop_data.specs.declared.statement.Statement.{Statement}
 use Rattle.loop_data.specs.declared.statement.Branch.{Branch}
 use Rattle.loop_data.specs.declared.statement.Statement.TheOpen.{Statement-F, Statement-F as s, Branch-F}
@@ -18,28 +19,55 @@ use Rattle.loop_meaning.specs.Stores.{start_store}
 
 -- ---- `@reduce` lines
 
+-- what is told of an `@reduce` line, by its reducer's name, its tower and the value after `from`
+abbrev pub Telling : Type 0 → Type 0
+Telling A = List ℕ → TowerExpr → Option Value → A
+
+abbrev pub all_told : {A : Type 0} → List (List A) → List A
+all_told [] = []
+all_told (told ∷ more) = told ++ all_told more
+
+abbrev pub branch_told : {A : Type 0} → Branch-F (List A) (List A) → List A
+branch_told b = all_told b.block
+
+-- one layer of a statement, given what is told of the `@reduce` lines of its parts
+abbrev pub told_step : {A : Type 0} → Telling A → Statement-F (List A) (List A) → List A
+told_step tell (s.If line branches else_line other end_line) = all_told branches ++ all_told other
+told_step tell (s.Reduce line name tower start) = tell name tower start ∷ []
+told_step tell _ = []
+
+abbrev pub told_in : {A : Type 0} → Telling A → Statement → List A
+told_in {A} tell = fold-Statement (List A) (List A) (told_step tell) branch_told
+
+abbrev pub told_in_branch : {A : Type 0} → Telling A → Branch → List A
+told_in_branch {A} tell = fold-Branch (List A) (List A) (told_step tell) branch_told
+
+-- what is told of the `@reduce` lines of a program, by rising lines
+abbrev pub told_of : {A : Type 0} → Telling A → ProgramTree → List A
+told_of tell program = all_told (map (told_in tell) program.body)
+
+-- a line with its reducer's name and the value after `from`
+abbrev pub site_told : Telling Site
+site_told name tower start = record { name = name; start = start }
+
 abbrev pub all_sites : List (List Site) → List Site
-all_sites [] = []
-all_sites (sites ∷ more) = sites ++ all_sites more
+all_sites = all_told
 
 abbrev pub branch_sites : Branch-F (List Site) (List Site) → List Site
-branch_sites b = all_sites b.block
+branch_sites = branch_told
 
--- one layer of a statement, given the `@reduce` lines of its parts
 abbrev pub sites_step : Statement-F (List Site) (List Site) → List Site
-sites_step (s.If line branches else_line other end_line) = all_sites branches ++ all_sites other
-sites_step (s.Reduce line name tower start) = record { name = name; start = start } ∷ []
-sites_step _ = []
+sites_step = told_step site_told
 
 abbrev pub sites_in : Statement → List Site
-sites_in = fold-Statement (List Site) (List Site) sites_step branch_sites
+sites_in = told_in site_told
 
 abbrev pub sites_in_branch : Branch → List Site
-sites_in_branch = fold-Branch (List Site) (List Site) sites_step branch_sites
+sites_in_branch = told_in_branch site_told
 
 -- the `@reduce` lines of a program, by rising lines
 abbrev pub sites_of : ProgramTree → List Site
-sites_of program = all_sites (map sites_in program.body)
+sites_of = told_of site_told
 
 -- ---- reducers
 

@@ -1,6 +1,6 @@
 -- The run of the plain loop: its items one after another on one thread, with one store that lives on.
 -- Source: a loop read from top to bottom, as in FLoops.jl without its macro; skipped faults are this project's.
-use Rattle.std.specs.Prelude.{ℕ, ◌+◌, Bool, true, false, List, [], ◌∷◌, ◌++◌}
+use Rattle.std.specs.Prelude.{ℕ, ◌+◌, Bool, true, false, ◌&&◌, List, [], ◌∷◌, ◌++◌}
 use Rattle.loop_data.specs.declared.value.Value.{Value}
 use Rattle.loop_grammar.specs.SkippedFaults.{skips_faults}
 use Rattle.loop_grammar.specs.declared.tree.ProgramTree.{ProgramTree}
@@ -11,6 +11,25 @@ use Rattle.loop_meaning.specs.declared.runs.PlainStop.{PlainStop}
 use Rattle.loop_meaning.specs.declared.runs.PlainStop.TheVariants as stop
 use Rattle.loop_meaning.specs.declared.runs.Run.{Run}
 use Rattle.loop_meaning.specs.Steps.{Step, body_step}
+
+-- ---- what follows from the end of a step
+
+abbrev pub is_fault : BodyEnd → Bool
+is_fault end.Next = false
+is_fault (end.Break line) = false
+is_fault (end.Fault line kind) = true
+
+-- whether a step that ended so is skipped: where faults are, each fault is
+abbrev pub is_skipped : Bool → BodyEnd → Bool
+is_skipped skips e = skips && is_fault e
+
+-- how a run stands behind a step that ended so at this place, and isn't skipped
+abbrev pub stop_at : BodyEnd → ℕ → PlainStop
+stop_at end.Next place = stop.Ran
+stop_at (end.Break line) place = stop.Break place line
+stop_at (end.Fault line kind) place = stop.Fault place line kind
+
+-- ---- the run
 
 -- nothing ran
 abbrev pub no_run : Bindings → Run

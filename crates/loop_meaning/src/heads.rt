@@ -5,15 +5,15 @@ ghost use Rattle.loop_values.specs.InnerItems.{ItemsFit, inner_limit, items_of};
 ghost use Rattle.loop_meaning.specs.Steps.{for_each, for_item, inner_runs};
 
 use crate::BodyRun;
-use crate::steps::{body_run, keep_the_store};
+use crate::steps::{body_run, go_back};
 use loop_data::{Inner, Value};
 use loop_grammar::ProgramTree;
-use loop_values::{InnerRange, eval_range};
+use loop_values::{Env, InnerRange, eval_range};
 use no_memory::NoMemory;
 use std::alloc::Global;
 
 /// The body runs of the further heads for one item of a head. Of the names that they bind or assign the stored ones keep
-/// their values.
+/// their values. The names of the body run stand in `outer` too, before and after.
 #[cycle(heads)]
 fn for_item(
     alloc: Global,
@@ -22,17 +22,19 @@ fn for_item(
     heads: &[Inner],
     width: u64,
     item: i64,
+    outer: &mut Env,
     run: &mut BodyRun,
 ) -> Result<(), NoMemory>
     requires least { 1 ≤ width }
     requires most { width ≤ inner_limit }
-    ensures { OnOk result (run.new ≡ for_item program.now head.now.name
+    requires outer { outer.old ≡ run.old.names }
+    ensures run { OnOk result (run.new ≡ for_item program.now head.now.name
         (inner_runs program.now heads.now width) item run.old) }
+    ensures outer { OnOk result (outer.new ≡ run.new.names) }
 {
-    let names = run.names.copy(alloc)?;
     run.name(alloc, head.name.as_str(), Value::Int(item))?;
     inner_runs(alloc, program, heads, width, run)?;
-    keep_the_store(alloc, program, names, run)
+    go_back(alloc, program, outer, run)
 }
 
 /// The body runs of the further heads for each item of a head, in order, where there are `width` in all.
@@ -52,10 +54,12 @@ fn for_each(
     ensures { OnOk result (run.new ≡ for_each program.now head.now.name (items_of range)
         (inner_runs program.now heads.now (width * range.count)) run.old) }
 {
+    let mut outer = run.names.copy(alloc)?;
     for before in 0..range.count {
         if run.flow.is_going() {
             let item = range.item(before + 1);
-            for_item(alloc, program, head, heads, width * range.count, item, run)?;
+            let width = width * range.count;
+            for_item(alloc, program, head, heads, width, item, &mut outer, run)?;
         }
     }
     Ok(())

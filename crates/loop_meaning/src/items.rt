@@ -6,41 +6,20 @@ ghost use Rattle.std.specs.FinMap.{get};
 ghost use Rattle.number_ranges.specs.Ranges.{items_from, range_count, range_item};
 ghost use Rattle.column_input.specs.Table.{column_of};
 ghost use Rattle.loop_data.specs.declared.value.Value.TheVariants as value;
-ghost use Rattle.loop_values.specs.Values.{value_of};
-ghost use Rattle.loop_meaning.specs.Items.{all_items, axis_items, column_items, combinations, head_items, in_front, items_of, number_of, numbers, side_by_side, sources, step_number, steps_items};
+ghost use Rattle.loop_meaning.specs.Items.{all_items, axis_items, column_items, combinations, head_items, in_front, items_of, numbers, side_by_side, sources, steps_items};
 
+use crate::bounds::{number_of, step_number};
 use crate::stores::variables;
 use column_input::Table;
-use loop_data::{Axis, Expr, HeadLine, Many, RangeExpr, TextValue, Value};
+use loop_data::{Axis, HeadLine, Many, RangeExpr, TextValue, Value};
 use loop_syntax::Program;
-use loop_values::{Env, EvalStop, eval};
+use loop_values::Env;
 use no_memory::NoMemory;
 use number_ranges::{range_count, range_item};
 use std::alloc::Global;
 
 /// A list of items of the first head.
 pub type ItemList = Many<Value>;
-
-/// The number of a bound; 0 where it faults, which no bound of a legal head does.
-fn number_of(alloc: Global, expr: &Expr, names: &Env) -> Result<i64, NoMemory>
-    ensures { IfOk result (λ n. n ≡ number_of (value_of expr.now (get names.now))) }
-{
-    match eval(alloc, expr, names) {
-        Ok(value) => Ok(value.as_int()),
-        Err(EvalStop::NoMemory) => Err(NoMemory),
-        Err(_) => Ok(0),
-    }
-}
-
-/// The number of a step, which is 1 where there is none.
-fn step_number(alloc: Global, step: &Option<Expr>, names: &Env) -> Result<i64, NoMemory>
-    ensures { IfOk result (λ n. n ≡ step_number step.now (get names.now)) }
-{
-    match step {
-        None => Ok(1),
-        Some(expr) => number_of(alloc, expr, names),
-    }
-}
 
 /// So many numbers from the first on, which fit 64 bits.
 fn numbers_from(alloc: Global, first: i64, step: i64, count: u64) -> Result<ItemList, NoMemory>

@@ -1,7 +1,7 @@
 //! What holds of the definitions, for readers and for callers' proofs: each function is empty, and its contract is the law.
 
 ghost use Rattle.loop_meaning.specs.Assigned.{OthersStay};
-ghost use Rattle.loop_meaning.specs.Laws.{AxesAreCounted, BlocksEmitBehind, FaultStopsHaveKinds, FaultsHaveKinds, HeadsEmitBehind, InputsAreFew, ItemsAreCounted, LeftmostStops, NoneStops, NoneStopsBefore, NothingFollowsAStop, ProductHoldsDigits, RunsEmitFew, RunsFollowEachOther, RunsStopLeftmost, SkipsAtMostItems, SkipsNone, StepsEmitAtMost, StepsEmitFew, StopsAmongItems, StopsCutTheList, StoreStays, ZipHoldsItems};
+ghost use Rattle.loop_meaning.specs.Laws.{AxesAreCounted, BlocksEmitBehind, FaultStopsHaveKinds, FaultsHaveKinds, HeadsEmitBehind, InputsAreFew, ItemsAreCounted, LeftmostStops, NoneStops, NoneStopsBefore, NothingFollowsAStop, ProductHeads, ProductHoldsDigits, RunsEmitFew, RunsFollowEachOther, RunsStopLeftmost, SkipsAtMostItems, SkipsNone, StepsEmitAtMost, StepsEmitFew, StopsAmongItems, StopsCutTheList, StoreStays, ZipAxes, ZipHeads, ZipHoldsItems};
 
 /// The run over two lists is the run over the first and, where that ran to its end, then over the second. What follows a stop
 /// doesn't count, and a run that stops is the run up to its stop.
@@ -63,15 +63,20 @@ pub fn few_are_emitted()
     ensures inputs { InputsAreFew }
 {}
 
-/// The item of a product with so many items before it holds each axis's item at the digits of that number, in the mixed base of
-/// the axes' counts, the first axis's digit being the lowest.
+/// Item k of a head that is a product is the tuple that holds each axis's item at the digits of k - 1, plus 1, in the mixed base
+/// of the axes' counts, the first axis fastest; there is none beyond the product of the counts. The same of lists, with so many
+/// choices before.
 pub fn product_holds_digits()
-    ensures { ProductHoldsDigits }
+    ensures heads { ProductHeads }
+    ensures lists { ProductHoldsDigits }
 {}
 
-/// The item of a zip with so many items before it holds each part's item with so many before it.
+/// Item k of a head that is a zip is the tuple that holds each part's item k; there is none beyond the shortest part. The same of
+/// each axis that is a zip, as one of a product's, and of lists, with so many rows before.
 pub fn zip_holds_items()
-    ensures { ZipHoldsItems }
+    ensures heads { ZipHeads }
+    ensures axes { ZipAxes }
+    ensures lists { ZipHoldsItems }
 {}
 
 /// There are as many items as the counts of the head's axes say: a range has its count, a column its rows, a zip as many as its

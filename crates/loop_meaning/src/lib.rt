@@ -6,6 +6,7 @@
 //! from them in [`laws`]. The calls compute them, one function for each definition.
 #![tactic(auto)]
 
+pub mod bounds;
 mod heads;
 mod items;
 pub mod laws;
@@ -17,7 +18,7 @@ mod stores;
 
 pub use items::{ItemList, items_of};
 pub use reducers::{Site, run_plain};
-pub use runs::{Named, PlainEnd, PlainStop, Run};
+pub use runs::{Named, PlainEnd, PlainStop, Run, is_skipped};
 pub use statements::{bind_pattern, run_block, run_statement};
-pub use steps::{BodyEnd, BodyRun, Pair, Flow, step_plain};
-pub use stores::start_store;
+pub use steps::{BodyEnd, BodyRun, Flow, Pair, step_plain};
+pub use stores::{start_store, variables};

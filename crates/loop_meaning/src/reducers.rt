@@ -11,8 +11,8 @@ ghost use Rattle.loop_meaning.specs.Reducers.{all_sites, sites_in, sites_in_bran
 
 use crate::runs::loop_run;
 use crate::stores::start_store;
-use crate::{Pair, ItemList, Named, PlainEnd, Run};
-use loop_data::{Branch, Many, Statement, TextValue, Value};
+use crate::{ItemList, Named, Pair, PlainEnd, Run};
+use loop_data::{Branch, Many, Statement, TextValue, Value, copy_start};
 use loop_grammar::ProgramTree;
 use loop_syntax::Program;
 use no_memory::NoMemory;
@@ -23,15 +23,6 @@ use std::alloc::Global;
 pub struct Site {
     pub name: TextValue,
     pub start: Option<Value>,
-}
-
-fn copy_start(alloc: Global, start: &Option<Value>) -> Result<Option<Value>, NoMemory>
-    ensures { IfOk result (λ copy. copy ≡ start.now) }
-{
-    match start {
-        None => Ok(None),
-        Some(value) => Ok(Some(value.copy(alloc)?)),
-    }
 }
 
 fn push_site(

@@ -2,8 +2,7 @@
 
 ghost use Rattle.std.specs.Prelude.{◌≡◌, ◌≢◌, ◌+◌, ◌<◌, ◌≤◌, ◌^◌, ◌∷◌, [], take, IfOk, IsTrue, IsFalse};
 ghost use Rattle.loop_grammar.specs.SkippedFaults.{skips_faults};
-ghost use Rattle.loop_meaning.specs.Chosen.{is_fault, is_skipped, stop_at};
-ghost use Rattle.loop_meaning.specs.Runs.{followed_by, loop_run, no_run};
+ghost use Rattle.loop_meaning.specs.Runs.{followed_by, is_fault, is_skipped, loop_run, no_run, stop_at};
 
 use crate::{BodyEnd, Pair, step_plain};
 use loop_data::{Many, TextValue, Value};
@@ -102,8 +101,8 @@ fn is_fault(end: BodyEnd) -> bool
     matches!(end, BodyEnd::Fault { .. })
 }
 
-/// Whether the program skips the fault in which a step ended, if it ended so.
-fn is_skipped(program: &Program, end: BodyEnd) -> bool
+/// Whether a step that ended so is skipped: it ended in a fault, and the program skips faults.
+pub fn is_skipped(program: &Program, end: BodyEnd) -> bool
     ensures { result ≡ is_skipped (skips_faults program.now) end }
 {
     program.skips_faults() && is_fault(end)

@@ -8,7 +8,7 @@ ghost use Rattle.tower_inputs.specs.Inputs.{input_of};
 ghost use Rattle.loop_meaning.specs.Chosen.{unless};
 ghost use Rattle.loop_meaning.specs.Statements.{Action, faulting, emitting, naming, with_parts, with_pattern, matching, keeping_something, evaluating, is_going, block_run, branch_run, first_true, statement_run};
 
-use crate::{BodyRun, Pair, Flow};
+use crate::{BodyRun, Flow, Pair};
 use loop_data::{Branch, Expr, Many, Statement, TextValue, TowerExpr, Value};
 use loop_values::{Env, EvalStop, eval};
 use no_memory::NoMemory;

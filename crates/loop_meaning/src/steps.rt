@@ -79,19 +79,19 @@ pub(crate) fn body_run(
     Ok(())
 }
 
-/// The names as they were before, but for the outer variables and scratches, which keep their new values.
-pub(crate) fn keep_the_store(
+/// Goes back to the names before, but for the outer variables and scratches, which keep their new values, before as well. What
+/// wasn't changed since is copied nowhere.
+pub(crate) fn go_back(
     alloc: Global,
     program: &ProgramTree,
-    before: Env,
+    before: &mut Env,
     run: &mut BodyRun,
 ) -> Result<(), NoMemory>
-    ensures { OnOk result (run.new ≡ kept_names program.now before run.old) }
+    ensures run { OnOk result (run.new ≡ kept_names program.now before.old run.old) }
+    ensures before { OnOk result (before.new ≡ run.new.names) }
 {
-    let mut names = before;
-    keep_stored(alloc, program, &mut names, &run.names)?;
-    run.names = names;
-    Ok(())
+    keep_stored(alloc, program, before, &run.names)?;
+    run.names.copy_from(alloc, before)
 }
 
 /// The names at the start of a step: the store's, the place, and the item under the head's pattern.

@@ -22,8 +22,8 @@ fn with_literals(alloc: Global, names: &mut Env, lines: &[Binding]) -> Result<()
     Ok(())
 }
 
-/// The values of the outer variables.
-pub(crate) fn variables(alloc: Global, program: &ProgramTree) -> Result<Env, NoMemory>
+/// The values of the outer variables, which are the names that a head's bounds may read. Refused only for want of memory.
+pub fn variables(alloc: Global, program: &ProgramTree) -> Result<Env, NoMemory>
     ensures { IfOk result (λ names. names ≡ variables program.now) }
 {
     let mut names = Env::new(alloc);

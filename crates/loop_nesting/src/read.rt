@@ -3,7 +3,9 @@
 ghost use Rattle.std.specs.Prelude.{◌≡◌, ◌≢◌, [], Ok, Err, IfOk};
 ghost use Rattle.loop_grammar.specs.declared.refusal.SyntaxRefusal.TheVariants as refusal;
 ghost use Rattle.loop_grammar.specs.Nesting.{Nests, most_blocks};
-ghost use Rattle.loop_nesting.specs.Reading.{step, at_start, in_vars, in_loop, in_prints, init, deeper, branched, ended, put, entered, whole_loop, closed, next_branch, condition, with_branch, if_of, run, finish, most_ifs};
+ghost use Rattle.loop_nesting.specs.Reading.{step, at_start, in_vars, in_loop, in_prints, init, deeper, branched, ended, put};
+ghost use Rattle.loop_nesting.specs.Reading.{entered, whole_loop, closed, next_branch, condition, with_branch, if_of};
+ghost use Rattle.loop_nesting.specs.Reading.{run, finish, most_ifs};
 ghost use Rattle.loop_nesting.specs.declared.open.Stage.TheVariants as stage;
 ghost use Rattle.loop_nesting.specs.Claims.{RefusesNesting};
 

@@ -1,6 +1,7 @@
 -- The statements of the laws of results: extremes and their places, and the keys of groups.
 -- Source: this project.
-use Rattle.std.specs.Prelude.{◌≡◌, ◌≢◌, ◌↔◌, ℕ, ◌≤◌, Bool, true, false, List, [], ◌∷◌, All, Contains, Option, Some, None, codes, ℤ, pos, ◌≤ℤ◌}
+use Rattle.std.specs.Prelude.{◌≡◌, ◌≢◌, ◌↔◌, ℕ, ◌≤◌, Bool, true, false, List, [], ◌∷◌, All, Contains, Option, Some, None, codes}
+use Rattle.std.specs.Prelude.{ℤ, pos, ◌≤ℤ◌}
 use Rattle.std.specs.declared.cmp.Ordering.{Ordering}
 use Rattle.std.specs.declared.cmp.Ordering.TheVariants.{Less, Equal}
 use Rattle.loop_data.specs.declared.value.Value.{Value}
@@ -33,7 +34,8 @@ TruthTextAndNumber = let mixed : List Value = Truth true ∷ Text (codes "a") �
 -- ---- places
 
 -- a value with a place is an input, no input's value beats it, and none that is equal to it stands at a lesser place
-abbrev pub IsAtLeastPlace : {T P : Type 0} → (T → T → Bool) → (T → T → Ordering) → (P → P → Type 0) → Option (T × P) → List (T × P) → Type 0
+abbrev pub IsAtLeastPlace : {T P : Type 0} → (T → T → Bool) → (T → T → Ordering) → (P → P → Type 0) → Option (T × P) →
+    List (T × P) → Type 0
 IsAtLeastPlace beats cmp AtMost None xs = xs ≡ []
 IsAtLeastPlace beats cmp AtMost (Some x) xs = Contains xs x × All (λ y. beats y.0 x.0 ≡ false) xs ×
     All (λ y. cmp y.0 x.0 ≡ Equal → AtMost x.1 y.1) xs
@@ -44,7 +46,8 @@ LeastIsAtLeastPlace = (xs : List (Value × ℤ)) → IsAtLeastPlace (is_smaller 
 
 -- the greatest with its place stands at the least place where it stands
 abbrev pub GreatestIsAtLeastPlace : Type 0
-GreatestIsAtLeastPlace = (xs : List (Value × ℤ)) → IsAtLeastPlace (is_greater value_cmp) value_cmp (λ p q. p ≤ℤ q) (greatest_at xs) xs
+GreatestIsAtLeastPlace = (xs : List (Value × ℤ)) →
+    IsAtLeastPlace (is_greater value_cmp) value_cmp (λ p q. p ≤ℤ q) (greatest_at xs) xs
 
 -- ---- keys
 

@@ -14,7 +14,9 @@ module _ {T : Type 0} {cmp : T → T → Ordering} (total : IsTotalOrder cmp) wh
 
   module _ {P : Type 0} {places : P → P → Ordering} (ordered : IsTotalOrder places) where
     pub smaller_at_is_order : IsStrictWeakOrder (is_smaller_at cmp places)
-    smaller_at_is_order = ranks_by (then_total (on_total (λ (x : T × P). x.0) total) (on_total (λ (x : T × P). x.1) ordered)) (λ x. x)
+    smaller_at_is_order =
+        ranks_by (then_total (on_total (λ (x : T × P). x.0) total) (on_total (λ (x : T × P). x.1) ordered)) (λ x. x)
 
     pub greater_at_is_order : IsStrictWeakOrder (is_greater_at cmp places)
-    greater_at_is_order = ranks_by (then_total (on_total (λ (x : T × P). x.0) (back_total total)) (on_total (λ (x : T × P). x.1) ordered)) (λ x. x)
+    greater_at_is_order =
+        ranks_by (then_total (on_total (λ (x : T × P). x.0) (back_total total)) (on_total (λ (x : T × P). x.1) ordered)) (λ x. x)

@@ -5,7 +5,8 @@ use Rattle.std.specs.Fmt.{signed_decimal}
 use Rattle.loop_data.specs.declared.value.Value.{Value}
 use Rattle.loop_data.specs.ValueTexts.{separated, value_text}
 use Rattle.loop_data.specs.declared.tower.Kind.{Kind}
-use Rattle.loop_results.specs.Results.{TowerResult, GroupResults, number, truth, found, found_at, listed, grouped, both, no_more, group, result_of}
+use Rattle.loop_results.specs.Results.{TowerResult, GroupResults, number, truth, found, found_at, listed, grouped, both}
+use Rattle.loop_results.specs.Results.{no_more, group, result_of}
 
 abbrev pub found_text : Option Value → List ℕ
 found_text (Some x) = value_text x

@@ -8,12 +8,12 @@ use Rattle.loop_grammar.specs.declared.tree.ProgramTree.{ProgramTree}
 use Rattle.loop_grammar.specs.Texts.{SpellsProgram}
 
 -- the most bytes of a loop file
-abbrev pub most_bytes : ℕ
-most_bytes = 65536
+abbrev pub loop_file_limit : ℕ
+loop_file_limit = 65536
 
 -- some loop file spells it
 abbrev pub IsProgram : ProgramTree → Type 0
-IsProgram program = ∥ ((text : List ℕ) × (length text ≤ most_bytes) × SpellsProgram text program) ∥₁
+IsProgram program = ∥ ((text : List ℕ) × (length text ≤ loop_file_limit) × SpellsProgram text program) ∥₁
 
 -- the text spells it
 abbrev pub IsSpelled : List ℕ → ProgramTree → Type 0

@@ -1,6 +1,7 @@
 //! Laws of texts and programs: public functions with no body, whose contracts are the laws; and what threads share.
 
-ghost use Rattle.loop_syntax.specs.Laws.{OneProgram, OneRefusal, NeverBoth, NeverNeither, ProgramsAreWellFormed, WellFormedIsSpelled, FewParentheses};
+ghost use Rattle.loop_syntax.specs.Laws.{OneProgram, OneRefusal, NeverBoth, NeverNeither, ProgramsAreWellFormed};
+ghost use Rattle.loop_syntax.specs.Laws.{WellFormedIsSpelled, FewParentheses};
 
 use crate::Program;
 use loop_data::laws::is_shared;

@@ -13,5 +13,5 @@ mod write;
 pub use laws::{never_both, never_neither, one_program, one_refusal};
 pub use loop_grammar::SyntaxRefusal;
 pub use program::Program;
-pub use read::read_program;
+pub use read::{LOOP_FILE_LIMIT, read_program};
 pub use write::write_program;

@@ -4,7 +4,7 @@ ghost use Rattle.std.specs.Prelude.{◌≡◌, ◌≢◌, ◌≤◌, ◌+◌, le
 ghost use Rattle.loop_tokens.specs.Lines.{lines_of};
 ghost use Rattle.loop_grammar.specs.declared.refusal.SyntaxRefusal.TheVariants as refusal;
 ghost use Rattle.loop_grammar.specs.Texts.{AllSay, FirstLineRefusal, SpellsProgram, FirstRefusal};
-ghost use Rattle.loop_syntax.specs.Programs.{most_bytes, kept};
+ghost use Rattle.loop_syntax.specs.Programs.{kept, loop_file_limit};
 
 use crate::program::Program;
 use loop_grammar::{Line, NumberedLine, SyntaxRefusal};
@@ -15,13 +15,16 @@ use no_memory::NoMemory;
 use std::alloc::Global;
 use std::collections::VecDeque;
 
-/// Reads the program that the bytes of a loop file spell. They are at most 65,536.
+/// The most bytes of a loop file. Contracts call it `loop_file_limit`.
+pub const LOOP_FILE_LIMIT: usize = 65536;
+
+/// Reads the program that the bytes of a loop file spell. They are at most [`LOOP_FILE_LIMIT`].
 ///
 /// # Errors
 ///
 /// The first refusal of the text, exactly where it spells no program; `NoMemory` for want of memory.
 pub fn read_program(alloc: Global, text: &[u8]) -> Result<Program, SyntaxRefusal>
-    requires { length text.now ≤ most_bytes }
+    requires { length text.now ≤ loop_file_limit }
     ensures spelled { IfOk result (λ p. SpellsProgram text.now p) }
     ensures refused { IfErr result (λ r. r ≢ refusal.NoMemory → FirstRefusal text.now r) }
 {
@@ -32,7 +35,7 @@ pub fn read_program(alloc: Global, text: &[u8]) -> Result<Program, SyntaxRefusal
 }
 
 fn read_text(alloc: Global, text: &str) -> Result<Program, SyntaxRefusal>
-    requires { length text.now ≤ most_bytes }
+    requires { length text.now ≤ loop_file_limit }
     ensures spelled { IfOk result (λ p. SpellsProgram text.now p) }
     ensures refused { IfErr result (λ r. r ≢ refusal.NoMemory → FirstRefusal text.now r) }
 {
@@ -61,7 +64,7 @@ fn keep(forms: &mut VecDeque<NumberedLine>, line: u32, form: Option<Line>) -> Re
 
 /// What the lines of a text say, and the number of the line behind the last.
 fn read_lines(alloc: Global, text: &str) -> Result<(VecDeque<NumberedLine>, u32), SyntaxRefusal>
-    requires { length text.now ≤ most_bytes }
+    requires { length text.now ≤ loop_file_limit }
     ensures said { IfOk result (λ p. AllSay 1 (lines_of text.now) p.0.items) }
     ensures end { IfOk result (λ p. p.1 ≡ length (lines_of text.now) + 1) }
     ensures refused { IfErr result (λ r.

@@ -20,4 +20,5 @@ is_blank b = b == 32 || b == 9
 
 -- what a byte stands for behind a backslash: `"`, `\`, LF for `n`, tab for `t`
 abbrev pub escape : ℕ → Option ℕ
-escape b = if b == 34 then Some 34 else (if b == 92 then Some 92 else (if b == 110 then Some 10 else (if b == 116 then Some 9 else None)))
+escape b = if b == 34 then Some 34 else (if b == 92 then Some 92 else
+    (if b == 110 then Some 10 else (if b == 116 then Some 9 else None)))

@@ -56,7 +56,10 @@ keyword_text k.Both = codes "both"
 
 -- all reserved words
 abbrev pub all_keywords : List Keyword
-all_keywords = k.Var ∷ k.For ∷ k.In ∷ k.Let ∷ k.If ∷ k.ElseIf ∷ k.Else ∷ k.End ∷ k.Continue ∷ k.Break ∷ k.Print ∷ k.From ∷ k.Then ∷ k.And ∷ k.Or ∷ k.Not ∷ k.Div ∷ k.Rem ∷ k.Mod ∷ k.True ∷ k.False ∷ k.Nothing ∷ k.Place ∷ k.Abs ∷ k.Min ∷ k.Max ∷ k.Len ∷ k.Int ∷ k.TryInt ∷ k.Text ∷ k.Col ∷ k.Zip ∷ k.Product ∷ k.Sum ∷ k.Prod ∷ k.Count ∷ k.ArgMin ∷ k.ArgMax ∷ k.First ∷ k.Last ∷ k.Any ∷ k.All ∷ k.List ∷ k.Group ∷ k.Both ∷ []
+all_keywords = k.Var ∷ k.For ∷ k.In ∷ k.Let ∷ k.If ∷ k.ElseIf ∷ k.Else ∷ k.End ∷ k.Continue ∷ k.Break ∷ k.Print ∷ k.From ∷
+    k.Then ∷ k.And ∷ k.Or ∷ k.Not ∷ k.Div ∷ k.Rem ∷ k.Mod ∷ k.True ∷ k.False ∷ k.Nothing ∷ k.Place ∷
+    k.Abs ∷ k.Min ∷ k.Max ∷ k.Len ∷ k.Int ∷ k.TryInt ∷ k.Text ∷ k.Col ∷ k.Zip ∷ k.Product ∷
+    k.Sum ∷ k.Prod ∷ k.Count ∷ k.ArgMin ∷ k.ArgMax ∷ k.First ∷ k.Last ∷ k.Any ∷ k.All ∷ k.List ∷ k.Group ∷ k.Both ∷ []
 
 -- the reserved word that these bytes are
 abbrev pub keyword_of : List ℕ → Option Keyword

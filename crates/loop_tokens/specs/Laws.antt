@@ -11,7 +11,8 @@ use Rattle.loop_tokens.specs.Tokens.{Holds, closes}
 
 -- a line holds one list of tokens at most, and is whole or isn't
 abbrev pub OneLexing : Type 0
-OneLexing = (line : List ℕ) (ts us : List Token) (whole also : Bool) → Holds line ts whole → Holds line us also → (ts ≡ us) × (whole ≡ also)
+OneLexing = (line : List ℕ) (ts us : List Token) (whole also : Bool) →
+    Holds line ts whole → Holds line us also → (ts ≡ us) × (whole ≡ also)
 
 -- each line holds some tokens
 abbrev pub SomeTokens : Type 0

@@ -22,7 +22,8 @@ text_of raw = meaning false raw
 
 -- a byte of a text as it is written between quotes
 abbrev pub escaped_byte : ℕ → List ℕ
-escaped_byte b = if b == 34 then 92 ∷ 34 ∷ [] else (if b == 92 then 92 ∷ 92 ∷ [] else (if b == 10 then 92 ∷ 110 ∷ [] else (if b == 9 then 92 ∷ 116 ∷ [] else b ∷ [])))
+escaped_byte b = if b == 34 then 92 ∷ 34 ∷ [] else (if b == 92 then 92 ∷ 92 ∷ [] else
+    (if b == 10 then 92 ∷ 110 ∷ [] else (if b == 9 then 92 ∷ 116 ∷ [] else b ∷ [])))
 
 -- a text as it is written between quotes: the four escapes, and other bytes as they are
 abbrev pub escaped : List ℕ → List ℕ

@@ -25,9 +25,10 @@ sign_text s.Close = codes ")"
 
 -- the sign that is this one byte: < > = + - * & : , ( )
 abbrev pub short_sign : ℕ → Option Sign
-short_sign b = if b == 60 then Some s.Less else (if b == 62 then Some s.Greater else (if b == 61 then Some s.Assign else (if b == 43 then Some s.Plus else
-    (if b == 45 then Some s.Minus else (if b == 42 then Some s.Star else (if b == 38 then Some s.Join else (if b == 58 then Some s.Colon else
-    (if b == 44 then Some s.Comma else (if b == 40 then Some s.Open else (if b == 41 then Some s.Close else None))))))))))
+short_sign b = if b == 60 then Some s.Less else (if b == 62 then Some s.Greater else (if b == 61 then Some s.Assign else
+    (if b == 43 then Some s.Plus else (if b == 45 then Some s.Minus else (if b == 42 then Some s.Star else
+    (if b == 38 then Some s.Join else (if b == 58 then Some s.Colon else (if b == 44 then Some s.Comma else
+    (if b == 40 then Some s.Open else (if b == 41 then Some s.Close else None))))))))))
 
 -- the sign that is this byte with a `=` behind it: + = ! < >
 abbrev pub long_sign : ℕ → Option Sign

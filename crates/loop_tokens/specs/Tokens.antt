@@ -1,6 +1,7 @@
 -- The tokens of a line of a loop: which bytes are a token, and which tokens a line holds, the longest first.
 -- Source: this project's language.
-use Rattle.std.specs.Prelude.{◌≡◌, ◌≢◌, ℕ, ◌-◌, ◌<◌, ◌≤◌, Bool, true, false, ◌&&◌, not, ◌==◌, List, [], ◌∷◌, length, take, drop, Option, Some, None, is_some, option_map, if◌then◌else◌}
+use Rattle.std.specs.Prelude.{◌≡◌, ◌≢◌, ℕ, ◌-◌, ◌<◌, ◌≤◌, Bool, true, false, ◌&&◌, not, ◌==◌, List, [], ◌∷◌, length, take, drop}
+use Rattle.std.specs.Prelude.{Option, Some, None, is_some, option_map, if◌then◌else◌}
 use Rattle.std.specs.List.{list_all}
 use Rattle.loop_tokens.specs.declared.token.Token.{Token}
 use Rattle.loop_tokens.specs.declared.token.Token.TheVariants as t
@@ -69,5 +70,7 @@ ends (b ∷ bs) = b == 35
 pub data Holds : List ℕ → List Token → Bool → Type 0 where
   end : {bytes : List ℕ} → ends bytes ≡ true → Holds bytes [] true
   stuck : {b : ℕ} {bytes : List ℕ} → is_blank b ≡ false → b ≢ 35 → NoToken (b ∷ bytes) → Holds (b ∷ bytes) [] false
-  blank : {b : ℕ} {bytes : List ℕ} {ts : List Token} {whole : Bool} → is_blank b ≡ true → Holds bytes ts whole → Holds (b ∷ bytes) ts whole
-  token : {t : Token} {bytes rest : List ℕ} {ts : List Token} {whole : Bool} → Longest t bytes rest → Holds rest ts whole → Holds bytes (t ∷ ts) whole
+  blank : {b : ℕ} {bytes : List ℕ} {ts : List Token} {whole : Bool} →
+      is_blank b ≡ true → Holds bytes ts whole → Holds (b ∷ bytes) ts whole
+  token : {t : Token} {bytes rest : List ℕ} {ts : List Token} {whole : Bool} →
+      Longest t bytes rest → Holds rest ts whole → Holds bytes (t ∷ ts) whole

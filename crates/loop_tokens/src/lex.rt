@@ -1,11 +1,13 @@
 //! Cuts a line into tokens.
 
-ghost use Rattle.std.specs.Prelude.{◌≡◌, ◌^◌, [], ◌∷◌, ◌<◌, ◌≤◌, ◌+◌, ℕ, length, take, drop, true, false, IfOk, MatchOption, MatchBool, Some, List, ◌≢◌, ◌++◌};
+ghost use Rattle.std.specs.Prelude.{◌≡◌, ◌^◌, [], ◌∷◌, ◌<◌, ◌≤◌, ◌+◌, ℕ, ◌≢◌, ◌++◌, length, take, drop};
+ghost use Rattle.std.specs.Prelude.{List, Some, true, false, IfOk, MatchOption, MatchBool};
 ghost use Rattle.std.specs.List.{prefix_len};
 ghost use Rattle.loop_tokens.specs.Bytes.{is_digit, is_word_byte, is_blank};
 ghost use Rattle.loop_tokens.specs.Signs.{is_sign, is_long_sign, sign_of};
 ghost use Rattle.loop_tokens.specs.Keywords.{is_at_word, at_word_of, keyword_of};
-ghost use Rattle.loop_tokens.specs.Tokens.{closes, named, token_of, is_token, IsLongestFront, NoFront, Longest, NoToken, ends, Holds};
+ghost use Rattle.loop_tokens.specs.Tokens.{closes, named, token_of, is_token, IsLongestFront, NoFront};
+ghost use Rattle.loop_tokens.specs.Tokens.{Longest, NoToken, ends, Holds};
 
 use crate::bytes::{escape, is_blank, is_digit, is_letter, is_word_byte};
 use crate::keyword::{AtWord, keyword_of};
@@ -63,7 +65,9 @@ fn text_len(bytes: &[u8]) -> Option<usize>
 
 /// Whether the bytes begin with the word.
 fn begins(word: &[u8], bytes: &[u8]) -> bool
-    ensures { MatchBool result (bytes.now ≡ word.now ++ drop (length word.now) bytes.now) ((rest : List ℕ) → bytes.now ≢ word.now ++ rest) }
+    ensures { MatchBool result
+        (bytes.now ≡ word.now ++ drop (length word.now) bytes.now)
+        ((rest : List ℕ) → bytes.now ≢ word.now ++ rest) }
 {
     bytes.starts_with(word)
 }

@@ -2,6 +2,7 @@
 -- Source: this project.
 use Rattle.std.specs.Prelude.{◌≡◌, ℕ, ◌==◌, Bool, true, false, ◌&&◌, ◌||◌, not, List, [], ◌∷◌, length, Some, Ok, pos, int_lt}
 use Rattle.std.specs.List.{list_all}
+use Rattle.number_ranges.specs.Ranges.{most_items}
 use Rattle.loop_data.specs.declared.value.Value.{Value, out-Value}
 use Rattle.loop_data.specs.declared.value.Value.TheOpen.{Value-F, Value-F as v}
 use Rattle.loop_data.specs.declared.value.Value.TheFolds.{fold-Value}
@@ -66,8 +67,9 @@ abbrev pub is_nothing_at : Value-F Value → Bool
 is_nothing_at v.Nothing = true
 is_nothing_at _ = false
 
+-- a number that an item's place can be
 abbrev pub is_place_at : Value-F Value → Bool
-is_place_at (v.Int n) = int_lt (pos 0) n && not (int_lt (pos 4294967296) n)
+is_place_at (v.Int n) = int_lt (pos 0) n && not (int_lt (pos most_items) n)
 is_place_at _ = false
 
 -- a value of any kind but Maybe, given whether its parts are

@@ -1,6 +1,7 @@
 -- The items of an inner range: its bounds' values, how many there are, and each of them; or the first fault.
 -- Source: Julia's ranges, which include the end where it is reached; the limit on body runs is this project's.
-use Rattle.std.specs.Prelude.{◌≡◌, ◌≢◌, ℕ, ◌*◌, ◌<◌, if◌then◌else◌, nat_lt, List, Option, Some, None, Result, Ok, Err, ℤ, pos, FitsSigned}
+use Rattle.std.specs.Prelude.{◌≡◌, ◌≢◌, ℕ, ◌*◌, ◌<◌, if◌then◌else◌, nat_lt, List, Option, Some, None, Result, Ok, Err, ℤ, pos}
+use Rattle.std.specs.Prelude.{FitsSigned}
 use Rattle.std.specs.Int.{w64}
 use Rattle.std.specs.Ordering.{int_eq}
 use Rattle.number_ranges.specs.Ranges.{range_count, range_item, range_items, items_from}

@@ -1,6 +1,7 @@
 -- The kind of an expression under the kinds of its names, or that it has none. Source: this project.
 -- A kind is Int, Bool, Text, Tuple of 2 to 4 kinds, or Maybe of a kind; Maybe stands only on the outside.
-use Rattle.std.specs.Prelude.{◌≡◌, ℕ, Bool, true, false, ◌&&◌, ◌||◌, if◌then◌else◌, nat_le, List, [], ◌∷◌, ◌++◌, length, Option, Some, None, Result, Ok, Err}
+use Rattle.std.specs.Prelude.{◌≡◌, ℕ, Bool, true, false, ◌&&◌, ◌||◌, if◌then◌else◌, nat_le, List, [], ◌∷◌, ◌++◌, length, Option}
+use Rattle.std.specs.Prelude.{Some, None, Result, Ok, Err}
 use Rattle.std.specs.List.{list_all}
 use Rattle.loop_data.specs.declared.value.Value.{Value}
 use Rattle.loop_data.specs.declared.value.Value.TheVariants as value
@@ -141,7 +142,8 @@ tuple_kind parts = kind_if (is_tuple_length (length parts)) (Tuple parts)
 -- of a tuple, given the kinds that are done and the parts that are left; none of them is Maybe
 abbrev pub part_kinds : List ValueKind → List Typing → Kinds → Kinded
 part_kinds done [] names = tuple_kind done
-part_kinds done (m ∷ ms) names = and_then (m names) (λ x. if is_maybe x then Err Differs else part_kinds (done ++ x ∷ []) ms names)
+part_kinds done (m ∷ ms) names =
+    and_then (m names) (λ x. if is_maybe x then Err Differs else part_kinds (done ++ x ∷ []) ms names)
 
 -- one layer of an expression, given the kinds of its parts
 abbrev pub kind_step : Expr-F Typing → Typing
@@ -152,7 +154,8 @@ kind_step (e.Neg a) names = and_then (a names) (λ x. kind_if (is_int x) Int)
 kind_step (e.Not a) names = and_then (a names) (λ x. kind_if (is_bool x) Truth)
 kind_step (e.Two o a b) names = and_then (a names) (λ x. and_then (b names) (two_kind o x))
 kind_step (e.Call w a) names = and_then (a names) (call_kind w)
-kind_step (e.If t a b) names = and_then (t names) (λ x. if is_bool x then and_then (a names) (λ y. other_kind y b names) else Err Differs)
+kind_step (e.If t a b) names =
+    and_then (t names) (λ x. if is_bool x then and_then (a names) (λ y. other_kind y b names) else Err Differs)
 kind_step (e.Tuple ps) names = part_kinds [] ps names
 
 abbrev pub kind_of : Expr → Typing

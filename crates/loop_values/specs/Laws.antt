@@ -106,7 +106,8 @@ KindsDifferOnly = (x : Expr) (names : Kinds) (s : TypeStop) → kind_of x names 
 
 -- the first, the step and the count stand for the items, and the fault is one
 abbrev pub RangesStandForTheirItems : Type 0
-RangesStandForTheirItems = (r : RangeExpr) (env : Names) (width : ℕ) → items_or_fault (range_of r env width) ≡ inner_items r env width
+RangesStandForTheirItems = (r : RangeExpr) (env : Names) (width : ℕ) →
+    items_or_fault (range_of r env width) ≡ inner_items r env width
 
 -- there are as many items as the count says
 abbrev pub ItemsAreCounted : Type 0

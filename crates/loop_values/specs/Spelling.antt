@@ -1,6 +1,7 @@
 -- Which number a text spells: after spaces and tabs at both ends are taken off, an optional sign and ASCII digits, in range.
 -- Source: this project.
-use Rattle.std.specs.Prelude.{ℕ, ◌+◌, ◌-◌, ◌*◌, Bool, ◌||◌, ◌==◌, nat_le, if◌then◌else◌, List, [], ◌∷◌, reverse, Option, Some, None, ℤ, pos, neg_ℤ}
+use Rattle.std.specs.Prelude.{ℕ, ◌+◌, ◌-◌, ◌*◌, Bool, ◌||◌, ◌==◌, nat_le, if◌then◌else◌, List, [], ◌∷◌, reverse, Option, Some}
+use Rattle.std.specs.Prelude.{None, ℤ, pos, neg_ℤ}
 use Rattle.std.specs.Char.{is_ascii_digit}
 
 -- a space or a tab
@@ -47,7 +48,8 @@ abbrev pub signed : List ℕ → Option ℤ
 signed [] = None
 signed (c ∷ cs) =
     if c == 45 then negative (up_to 9223372036854775808 (natural cs))
-    else (if c == 43 then positive (up_to 9223372036854775807 (natural cs)) else positive (up_to 9223372036854775807 (natural (c ∷ cs))))
+    else (if c == 43 then positive (up_to 9223372036854775807 (natural cs))
+    else positive (up_to 9223372036854775807 (natural (c ∷ cs))))
 
 abbrev pub spelled : List ℕ → Option ℤ
 spelled bs = signed (trimmed bs)

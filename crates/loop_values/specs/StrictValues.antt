@@ -1,6 +1,7 @@
 -- The value of an expression with no defaults: none where an operand is of a kind that the operation does not take, a name is
 -- not bound, or a tuple is none. Source: this project. So it tells where the values of Values are asked for in earnest.
-use Rattle.std.specs.Prelude.{ℕ, Bool, true, false, not, if◌then◌else◌, List, [], ◌∷◌, ◌++◌, length, codes, Option, Some, None, Ok, Err, ℤ, pos, ◌+ℤ◌, ◌-ℤ◌, ◌*ℤ◌, neg_ℤ, int_lt, unsigned_abs}
+use Rattle.std.specs.Prelude.{ℕ, Bool, true, false, not, if◌then◌else◌, List, [], ◌∷◌, ◌++◌, length, codes, Option, Some, None}
+use Rattle.std.specs.Prelude.{Ok, Err, ℤ, pos, ◌+ℤ◌, ◌-ℤ◌, ◌*ℤ◌, neg_ℤ, int_lt, unsigned_abs}
 use Rattle.std.specs.Int.{int_min, int_max}
 use Rattle.std.specs.Ordering.{is_lt, nat_cmp, int_eq}
 use Rattle.std.specs.Cmp.Lexicographic.{slice_cmp}
@@ -19,7 +20,8 @@ use Rattle.loop_data.specs.declared.expr.Expr.TheFolds.{fold-Expr}
 use Rattle.loop_data.specs.ValueParts.{same_bool}
 use Rattle.loop_values.specs.Bindings.{Names, place_name}
 use Rattle.loop_values.specs.Kinds.{is_tuple_length}
-use Rattle.loop_values.specs.Operations.{Outcome, wrapped, divided, remainder, modulo, within_limit, truth, number_or_fault, number_or_nothing}
+use Rattle.loop_values.specs.Operations.{Outcome, wrapped, divided, remainder, modulo, within_limit, truth, number_or_fault}
+use Rattle.loop_values.specs.Operations.{number_or_nothing}
 use Rattle.loop_values.specs.Spelling.{spelled}
 
 -- a value or the first fault, where each operand that is asked for is such as is taken

@@ -8,7 +8,8 @@ use Rattle.loop_data.specs.declared.expr.Expr.{Expr}
 use Rattle.loop_data.specs.declared.expr.Expr.TheOpen.{Expr-F, Expr-F as e}
 use Rattle.loop_data.specs.declared.expr.Expr.TheFolds.{fold-Expr}
 use Rattle.loop_values.specs.Bindings.{Names, place_name}
-use Rattle.loop_values.specs.Operations.{Outcome, Number, Test, int_or_fault, bool_or_fault, and_then, wrapped, truth, two_of, decides, call_of}
+use Rattle.loop_values.specs.Operations.{Outcome, Number, Test, int_or_fault, bool_or_fault, and_then, wrapped, truth, two_of}
+use Rattle.loop_values.specs.Operations.{decides, call_of}
 use Rattle.loop_data.specs.ValueParts.{as_int, as_bool}
 
 -- what an expression means: its outcome, given the values of names

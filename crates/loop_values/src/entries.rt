@@ -1,4 +1,4 @@
-ghost use Rattle.std.specs.Prelude.{◌≡◌, ◌≢◌, None, OnOk, OnErr, IsOk};
+ghost use Rattle.std.specs.Prelude.{◌≡◌, ◌≢◌, ◌≤◌, ◌++◌, true, length, take, None, OnOk, OnErr, IsOk};
 ghost use Rattle.std.specs.Option.{option_copied};
 ghost use Rattle.std.specs.Ordering.{nat_cmp};
 ghost use Rattle.std.specs.Cmp.Lexicographic.{slice_cmp};
@@ -6,7 +6,7 @@ ghost use Rattle.std.specs.FinMap.{find};
 ghost use Rattle.std.specs.Str.{bytes_eq};
 ghost use Rattle.loop_values.specs.Entries.{with_entry};
 
-use loop_data::TextValue;
+use loop_data::{TextValue, Value};
 use no_memory::NoMemory;
 use std::alloc::Global;
 
@@ -65,4 +65,51 @@ fn is_same_text(a: &str, b: &str) -> bool
     ensures { result ≡ bytes_eq a.now b.now }
 {
     a == b
+}
+
+/// Puts copies of entries last.
+pub(crate) fn push_copies(
+    alloc: Global,
+    held: &mut Vec<(TextValue, Value)>,
+    entries: &[(TextValue, Value)],
+) -> Result<(), NoMemory>
+    ensures { OnOk result (held.new.items ≡ held.old.items ++ entries.now) }
+{
+    for (name, value) in entries {
+        let name = name.copy(alloc)?;
+        let value = value.copy(alloc)?;
+        held.push((name, value))?;
+    }
+    Ok(())
+}
+
+/// How many entries at the front of two lists are the same, which is found by looking at them.
+pub(crate) fn same_front(held: &[(TextValue, Value)], other: &[(TextValue, Value)]) -> usize
+    ensures within { result ≤ length other.now }
+    ensures same { take result held.now ≡ take result other.now }
+{
+    let both = held.len().min(other.len());
+    for i in 0..both {
+        if !is_same_entry(&held[i], &other[i]) {
+            return i;
+        }
+    }
+    both
+}
+
+/// Whether two entries are one.
+fn is_same_entry(a: &(TextValue, Value), b: &(TextValue, Value)) -> bool
+    ensures { result ≡ true → a.now ≡ b.now }
+{
+    is_same(a.0.as_str(), b.0.as_str()) && is_same_value(&a.1, &b.1)
+}
+
+/// Whether two values are one. Numbers, which most are, take no call.
+fn is_same_value(a: &Value, b: &Value) -> bool
+    ensures { result ≡ true → a.now ≡ b.now }
+{
+    match (a, b) {
+        (Value::Int(m), Value::Int(n)) => m == n,
+        _ => a == b,
+    }
 }

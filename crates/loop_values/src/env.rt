@@ -2,7 +2,7 @@ ghost use Rattle.std.specs.Prelude.{◌≡◌, ◌≢◌, None, OnOk, OnErr, IfO
 ghost use Rattle.std.specs.Option.{option_copied};
 ghost use Rattle.std.specs.FinMap as map;
 
-use crate::entries::{entry_of, set_entry};
+use crate::entries::{entry_of, push_copies, same_front, set_entry};
 use loop_data::{TextValue, Value};
 use no_memory::NoMemory;
 use std::alloc::Global;
@@ -62,22 +62,20 @@ impl Env {
     pub fn copy(&self, alloc: Global) -> Result<Env, NoMemory>
         ensures { IfOk result (λ e. e ≡ self.now) }
     {
-        let held = copy_entries(alloc, self.held.as_slice())?;
+        let mut held = Vec::with_capacity(alloc, self.held.len())?;
+        push_copies(alloc, &mut held, self.held.as_slice())?;
         Ok(Env { held })
     }
-}
 
-fn copy_entries(
-    alloc: Global,
-    held: &[(TextValue, Value)],
-) -> Result<Vec<(TextValue, Value)>, NoMemory>
-    ensures { IfOk result (λ v. v.items ≡ held.now) }
-{
-    let mut copies = Vec::with_capacity(alloc, held.len())?;
-    for (name, value) in held {
-        let name = name.copy(alloc)?;
-        let value = value.copy(alloc)?;
-        copies.push((name, value))?;
+    /// Has the bindings of another. Refused only for want of memory: then these bindings can only be dropped.
+    ///
+    /// It is for going back: where the other was copied from these, what was bound since is taken off, what was changed is
+    /// copied, and all else stays, so that nothing is copied where names were only added.
+    pub fn copy_from(&mut self, alloc: Global, other: &Env) -> Result<(), NoMemory>
+        ensures { OnOk result (self.new ≡ other.now) }
+    {
+        let front = same_front(self.held.as_slice(), other.held.as_slice());
+        self.held.truncate(front);
+        push_copies(alloc, &mut self.held, &other.held[front..])
     }
-    Ok(copies)
 }

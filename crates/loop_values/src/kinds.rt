@@ -1,6 +1,7 @@
 ghost use Rattle.std.specs.Prelude.{◌≡◌, ◌≢◌, ◌↔◌, Err, IfOk, IsTrue};
 ghost use Rattle.std.specs.FinMap as map;
-ghost use Rattle.loop_values.specs.Kinds.{kind_of, same_kind, is_int, is_bool, is_text, is_maybe, is_ordered, is_comparable, kind_if, literal_kind, two_kind, call_kind, maybe_of, tuple_kind};
+ghost use Rattle.loop_values.specs.Kinds.{kind_of, same_kind, is_int, is_bool, is_text, is_maybe, is_ordered, is_comparable};
+ghost use Rattle.loop_values.specs.Kinds.{kind_if, literal_kind, two_kind, call_kind, maybe_of, tuple_kind};
 
 use crate::{TypeStop, Types};
 use loop_data::{Boxed, Expr, Many, Op, Value, ValueKind, Word};

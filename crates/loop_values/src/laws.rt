@@ -2,7 +2,12 @@
 
 ghost use Rattle.loop_data.specs.declared.value.Value as value;
 ghost use Rattle.loop_data.specs.declared.value.ValueKind as value_kind;
-ghost use Rattle.loop_values.specs.Laws.{ValueFitsKind, NoDefaultIsAsked, ValueDependsOnItsNames, KindDependsOnItsNames, KindsAreWellFormed, NotNothingFits, FittingIsPlain, TuplesFitByParts, ValuesHaveThreeFaults, RangesHaveFiveFaults, KindsDifferOnly, RangesStandForTheirItems, ItemsAreCounted, ItemsLieBetween, RangeDependsOnItsNames, BoundNameHasItsValue, OtherNamesKeepTheirs, NamesBindInEitherOrder, DecimalSpellsItsNumber, ModuloSplits};
+ghost use Rattle.loop_values.specs.Laws.{ValueFitsKind, NoDefaultIsAsked, ValueDependsOnItsNames, KindDependsOnItsNames};
+ghost use Rattle.loop_values.specs.Laws.{KindsAreWellFormed, NotNothingFits, FittingIsPlain, TuplesFitByParts};
+ghost use Rattle.loop_values.specs.Laws.{ValuesHaveThreeFaults, RangesHaveFiveFaults, KindsDifferOnly};
+ghost use Rattle.loop_values.specs.Laws.{RangesStandForTheirItems, ItemsAreCounted, ItemsLieBetween, RangeDependsOnItsNames};
+ghost use Rattle.loop_values.specs.Laws.{BoundNameHasItsValue, OtherNamesKeepTheirs, NamesBindInEitherOrder};
+ghost use Rattle.loop_values.specs.Laws.{DecimalSpellsItsNumber, ModuloSplits};
 
 use crate::{Env, EvalStop, InnerRange, TypeStop, Types};
 use loop_data::laws::is_shared;

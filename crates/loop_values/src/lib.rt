@@ -20,7 +20,7 @@ pub use env::Env;
 pub use kinds::{is_same_kind, type_of};
 pub use loop_data::{
     Axis, Binding, Boxed, Branch, CopyIn, Expr, HeadLine, Inner, Kind, Many, Op, PrintLine,
-    RangeExpr, Statement, TextValue, TowerExpr, Value, ValueKind, Word, copy_block,
+    RangeExpr, Statement, TextValue, TowerExpr, Value, ValueKind, Word,
 };
 pub use ranges::{InnerRange, eval_range};
 pub use stop::{EvalStop, TypeStop};

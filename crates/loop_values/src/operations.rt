@@ -1,7 +1,9 @@
 ghost use Rattle.std.specs.Prelude.{◌≡◌, ◌≢◌, Err, IfOk, ◌<◌, unsigned_abs, neg_ℤ, pos};
 ghost use Rattle.std.specs.Int.{w64, int_wrap};
 ghost use Rattle.loop_data.specs.ValueParts.{is_equal};
-ghost use Rattle.loop_values.specs.Operations.{text_of, divided, remainder, modulo, with_sign_of, joined, is_less, compared, arithmetic, is_arithmetic, is_comparison, is_counting, gives_truth, int_or_fault, number_or_fault, two_of, decides, call_of};
+ghost use Rattle.loop_values.specs.Operations.{text_of, divided, remainder, modulo, with_sign_of, joined, is_less, compared};
+ghost use Rattle.loop_values.specs.Operations.{arithmetic, is_arithmetic, is_comparison, is_counting, gives_truth};
+ghost use Rattle.loop_values.specs.Operations.{int_or_fault, number_or_fault, two_of, decides, call_of};
 ghost use Rattle.loop_values.specs.Spelling.{spelled};
 
 use crate::EvalStop;

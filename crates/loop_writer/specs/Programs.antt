@@ -1,7 +1,8 @@
 -- The canonical text of a program: its lines in order, each with its number and with how many
 -- blocks are open round it.
 -- Source: this project's language.
-use Rattle.std.specs.Prelude.{ℕ, ◌+◌, ◌==◌, Bool, true, false, List, [], ◌∷◌, ◌++◌, map, flat_map, Option, Some, None, if◌then◌else◌}
+use Rattle.std.specs.Prelude.{ℕ, ◌+◌, ◌==◌, Bool, true, false, List, [], ◌∷◌, ◌++◌, map, flat_map}
+use Rattle.std.specs.Prelude.{Option, Some, None, if◌then◌else◌}
 use Rattle.loop_data.specs.declared.expr.Expr.{Expr}
 use Rattle.loop_data.specs.declared.statement.Statement.{Statement}
 use Rattle.loop_data.specs.declared.statement.Branch.{Branch}

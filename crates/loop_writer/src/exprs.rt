@@ -2,7 +2,8 @@
 
 ghost use Rattle.std.specs.Prelude.{◌≡◌, [], ◌∷◌, ◌++◌, map, true, false, OnOk, if◌then◌else◌};
 ghost use Rattle.loop_layout.specs.Layout.{token_text};
-ghost use Rattle.loop_layout.specs.Canonical.{first, glued, comma, op_token, is_extreme, word_token, written_expr, expr_marks, in_parentheses, negated, parts_marks};
+ghost use Rattle.loop_layout.specs.Canonical.{first, glued, comma, op_token, is_extreme, word_token, written_expr, expr_marks};
+ghost use Rattle.loop_layout.specs.Canonical.{in_parentheses, negated, parts_marks};
 ghost use Rattle.loop_writer.specs.Writing.{Writes};
 
 use crate::marks::{write_keyword, write_name, write_sign, write_token, write_value};

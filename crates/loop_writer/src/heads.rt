@@ -1,7 +1,8 @@
 //! Patterns, ranges, axes and heads.
 
 ghost use Rattle.std.specs.Prelude.{◌≡◌, [], ◌∷◌, ◌++◌, map, true, false, OnOk};
-ghost use Rattle.loop_layout.specs.Canonical.{step_marks, range_marks, listed, axis_marks, name_marks, pattern_marks, inner_marks, head_marks};
+ghost use Rattle.loop_layout.specs.Canonical.{step_marks, range_marks, listed, axis_marks, name_marks, pattern_marks};
+ghost use Rattle.loop_layout.specs.Canonical.{inner_marks, head_marks};
 ghost use Rattle.loop_writer.specs.Writing.{Writes};
 
 use crate::exprs::{write_comma, write_expr};

@@ -3,7 +3,8 @@
 ghost use Rattle.std.specs.Prelude.{◌≡◌, [], ◌∷◌, ◌++◌, map, flat_map, true, false, IfOk, OnOk};
 ghost use Rattle.loop_grammar.specs.declared.line.Line.TheVariants as l;
 ghost use Rattle.loop_grammar.specs.declared.line.Line.{Line};
-ghost use Rattle.loop_writer.specs.Programs.{condition, statement_lines, branch_lines, branches_lines, block_lines, else_lines, skip_lines, var_line, init_line, print_line, for_line, placed, canonical_text};
+ghost use Rattle.loop_writer.specs.Programs.{condition, statement_lines, branch_lines, branches_lines, block_lines, else_lines};
+ghost use Rattle.loop_writer.specs.Programs.{skip_lines, var_line, init_line, print_line, for_line, placed, canonical_text};
 ghost use Rattle.loop_writer.specs.Writing.{Wrote, WroteLine, IsWord};
 
 use crate::lines::{

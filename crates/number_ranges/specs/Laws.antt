@@ -1,6 +1,7 @@
 -- Laws of ranges: where their items lie, how many there are, and how a list of them is taken apart.
 -- Source: this project.
-use Rattle.std.specs.Prelude.{◌≡◌, ◌≢◌, ◌≤◌, ◌<◌, ◌↔◌, ◌⊎◌, ℕ, ◌+◌, false, [], ◌∷◌, ◌++◌, length, Some, slice_get, ℤ, pos, ◌+ℤ◌, ◌≤ℤ◌, FitsSigned}
+use Rattle.std.specs.Prelude.{◌≡◌, ◌≢◌, ◌≤◌, ◌<◌, ◌↔◌, ◌⊎◌, ℕ, ◌+◌, false, [], ◌∷◌, ◌++◌, length, Some, slice_get, ℤ, pos, ◌+ℤ◌}
+use Rattle.std.specs.Prelude.{◌≤ℤ◌, FitsSigned}
 use Rattle.std.specs.Int.{w64}
 use Rattle.number_ranges.specs.Ranges.{lies_behind, range_count, range_item, items_from, range_items, most_range_items}
 

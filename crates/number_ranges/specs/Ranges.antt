@@ -1,5 +1,5 @@
--- The items of a range first:step:last, the last included where it is reached: how many there are, and each of them.
--- Source: the ranges of Julia, `a:b` and `a:s:b`.
+-- The items of a range first:step:last, the last included where it is reached: how many there are, and each of them; the most
+-- that a loop has. Source: the ranges of Julia, `a:b` and `a:s:b`; the limit on a loop's items is this project's.
 use Rattle.std.specs.Prelude.{ℕ, ◌+◌, ◌/◌, Bool, if◌then◌else◌, List, map, ℤ, pos, ◌+ℤ◌, ◌-ℤ◌, ◌*ℤ◌, int_lt, unsigned_abs}
 use Rattle.std.specs.List.{range_with_len}
 
@@ -15,6 +15,10 @@ range_count first step last =
 -- the most items that a range of 64-bit numbers has: 2^64
 abbrev pub most_range_items : ℕ
 most_range_items = 18446744073709551616
+
+-- the most items of a loop, and so of a range that is halved, of a column and of a shape; the place of an item is no larger
+abbrev pub most_items : ℕ
+most_items = 4294967296
 
 -- the number that lies so many steps after the first
 abbrev pub range_item : ℤ → ℤ → ℕ → ℤ

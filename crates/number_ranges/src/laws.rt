@@ -1,6 +1,7 @@
 //! What the definitions of ranges give: laws, each the contract of a function that does nothing.
 
-ghost use Rattle.number_ranges.specs.Laws.{ItemsLieBetween, ItemsFit, CountsAreBounded, HoldsWhatIsNotPast, ItemsAreCounted, LengthIsCount, ItemsByPlace, NoItems, FirstThenRest, ItemsOfNeighbours, StepsAdd};
+ghost use Rattle.number_ranges.specs.Laws.{ItemsLieBetween, ItemsFit, CountsAreBounded, HoldsWhatIsNotPast, ItemsAreCounted};
+ghost use Rattle.number_ranges.specs.Laws.{LengthIsCount, ItemsByPlace, NoItems, FirstThenRest, ItemsOfNeighbours, StepsAdd};
 
 /// Each item of a range lies between its first and its last, and so fits 64 bits where they do.
 pub fn items_lie_between()

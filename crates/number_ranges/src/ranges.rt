@@ -4,6 +4,9 @@ ghost use Rattle.std.specs.Prelude.{◌≡◌, ◌≢◌, ◌≤◌, pos, FitsSi
 ghost use Rattle.std.specs.Int.{w64};
 ghost use Rattle.number_ranges.specs.Ranges.{lies_behind, range_count, range_item, most_range_items};
 
+/// The most items of a loop, and so of a range that is halved, of a column and of a shape: 2^32. Contracts call it `most_items`.
+pub const MOST_ITEMS: u128 = 4_294_967_296;
+
 /// How many items the range `first:step:last` has, from 0 to 2^64. The step isn't 0.
 ///
 /// Source: Julia's `a:b` and `a:s:b`, which hold their end where it is reached.

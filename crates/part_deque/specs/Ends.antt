@@ -53,7 +53,8 @@ pub record ThiefEnd : Type 0 where
 
 abbrev pub owner_end : DequeId → List ℕ → ℕ → ℕ → List Stretch → List Stretch → List Stretch → ℕ → ℕ → OwnerEnd
 owner_end deque lens least weight pushed taken kept stolen misses =
-    record { deque = deque; lens = lens; least = least; weight = weight; pushed = pushed; taken = taken; kept = kept; stolen = stolen; misses = misses }
+    record { deque = deque; lens = lens; least = least; weight = weight; pushed = pushed; taken = taken;
+        kept = kept; stolen = stolen; misses = misses }
 
 abbrev pub thief_end : DequeId → List ℕ → ℕ → ℕ → List Stretch → ℕ → ℕ → ThiefEnd
 thief_end deque lens least weight taken stolen misses =
@@ -74,7 +75,8 @@ pub record SameThief (old new : ThiefEnd) : Type 0 where
 
 -- the owner's end after a push
 abbrev pub after_push : OwnerEnd → Stretch → OwnerEnd
-after_push o part = owner_end o.deque o.lens o.least o.weight (o.pushed ++ part ∷ []) o.taken (o.kept ++ part ∷ []) o.stolen o.misses
+after_push o part =
+    owner_end o.deque o.lens o.least o.weight (o.pushed ++ part ∷ []) o.taken (o.kept ++ part ∷ []) o.stolen o.misses
 
 -- the owner's end after a pop that leaves so much
 abbrev pub after_pop : OwnerEnd → Stretch → List Stretch → OwnerEnd
@@ -86,7 +88,8 @@ after_missed_pop o = owner_end o.deque o.lens o.least o.weight o.pushed o.taken 
 
 -- the owner's end after it took in a thief's
 abbrev pub after_join : OwnerEnd → ThiefEnd → OwnerEnd
-after_join o t = owner_end o.deque o.lens o.least (o.weight + t.weight) o.pushed (o.taken ++ t.taken) o.kept (o.stolen + t.stolen) o.misses
+after_join o t =
+    owner_end o.deque o.lens o.least (o.weight + t.weight) o.pushed (o.taken ++ t.taken) o.kept (o.stolen + t.stolen) o.misses
 
 -- a thief's end after it stole a part
 abbrev pub after_steal : ThiefEnd → Stretch → ThiefEnd

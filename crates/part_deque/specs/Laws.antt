@@ -12,7 +12,8 @@ use Rattle.part_deque.specs.Steps.{IsStep, IsReached}
 -- each kind of step keeps the rule, from each state that meets it
 abbrev pub StepsKeepRule : Type 0
 StepsKeepRule =
-    (parts parts' : List Stretch) (views views' : List Account) → IsStep parts views parts' views' → DequeRule parts views → DequeRule parts' views'
+    (parts parts' : List Stretch) (views views' : List Account) → IsStep parts views parts' views' → DequeRule parts views →
+    DequeRule parts' views'
 
 -- whatever steps follow the making, the rule holds
 abbrev pub RuleAlwaysHolds : Type 0
@@ -25,5 +26,6 @@ pub record KnowsAll (parts : List Stretch) (v : Account) : Type 0 where
 
 abbrev pub WholeWeightKnowsAll : Type 0
 WholeWeightKnowsAll =
-    (parts : List Stretch) (views : List Account) (v : Account) → DequeRule parts views → get_elem? views 0 ≡ some v → v.weight ≡ whole_weight
+    (parts : List Stretch) (views : List Account) (v : Account) → DequeRule parts views → get_elem? views 0 ≡ some v →
+    v.weight ≡ whole_weight
     → KnowsAll parts v

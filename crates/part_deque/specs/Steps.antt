@@ -37,7 +37,8 @@ with_rights v n = heavier v (n * right_weight)
 
 -- the account of an end that took another in
 abbrev pub together : Account → Account → Account
-together v w = account (v.weight + w.weight) v.lens v.least (v.pushed ++ w.pushed) (v.taken ++ w.taken) v.kept (v.stolen + w.stolen)
+together v w =
+    account (v.weight + w.weight) v.lens v.least (v.pushed ++ w.pushed) (v.taken ++ w.taken) v.kept (v.stolen + w.stolen)
 
 -- the account of a right by which nothing was done, and an account from which one was cut
 abbrev pub right_of : List ℕ → ℕ → Account
@@ -58,20 +59,24 @@ pub record HasEnd (views : List Account) (port : ℕ) (v : Account) : Type 0 whe
 -- One step: the parts and the accounts before it, and after it. The owner's end is the first; it alone pushes, pops and joins,
 -- and, where it has no crew yet, is named one by the cut of the first right.
 pub data IsStep : List Stretch → List Account → List Stretch → List Account → Type 0 where
-  a_push : {parts : List Stretch} {views : List Account} {v : Account} (part : Stretch) → HasEnd views 0 v → IsNode v.lens v.least part
+  a_push : {parts : List Stretch} {views : List Account} {v : Account} (part : Stretch) → HasEnd views 0 v →
+      IsNode v.lens v.least part
       → IsStep parts views (parts ++ part ∷ []) (slice_set views 0 (with_pushed v part))
   a_pop : {parts : List Stretch} {views : List Account} {v : Account} (part : Stretch) (kept : List Stretch) → HasEnd views 0 v
       → v.kept ≡ kept ++ part ∷ [] → IsStep (parts ++ part ∷ []) views parts (slice_set views 0 (with_popped v part kept))
   a_steal : {parts : List Stretch} {views : List Account} {port : ℕ} {v : Account} (part : Stretch) → HasEnd views port v
       → IsStep (part ∷ parts) views parts (slice_set views port (with_stolen v part))
-  a_split : {parts : List Stretch} {views : List Account} (port : ℕ) (v : Account) (share : ℕ) → get_elem? views port ≡ some v → 0 < share → share < v.weight
+  a_split : {parts : List Stretch} {views : List Account} (port : ℕ) (v : Account) (share : ℕ) → get_elem? views port ≡ some v →
+      0 < share → share < v.weight
       → IsStep parts views parts (slice_set views port (without v share) ++ fresh share v.lens v.least ∷ [])
   a_naming : {parts : List Stretch} {views : List Account} (lens : List ℕ) (least : ℕ) → get_elem? views 0 ≡ some opening
       → IsStep parts views parts (slice_set views 0 (named lens least opening) ++ right_of lens least ∷ [])
-  a_join : {parts : List Stretch} {views : List Account} {other : ℕ} {v w : Account} → HasEnd views 0 v → HasEnd views (suc other) w
+  a_join : {parts : List Stretch} {views : List Account} {other : ℕ} {v w : Account} → HasEnd views 0 v →
+      HasEnd views (suc other) w
       → IsStep parts views parts (slice_set (slice_set views 0 (together v w)) (suc other) spent)
 
 -- the making of a deque for a crew, and any steps after it, lead to these parts and accounts
 pub data IsReached : List Stretch → List Account → Type 0 where
   the_making : (lens : List ℕ) (least : ℕ) → IsReached [] (fresh whole_weight lens least ∷ [])
-  then_a_step : {parts parts' : List Stretch} {views views' : List Account} → IsReached parts views → IsStep parts views parts' views' → IsReached parts' views'
+  then_a_step : {parts parts' : List Stretch} {views views' : List Account} → IsReached parts views →
+      IsStep parts views parts' views' → IsReached parts' views'

@@ -7,7 +7,8 @@ ghost use Rattle.splittable.specs.Nodes.{IsNode};
 ghost use Rattle.part_deque.specs.Rule.{whole_weight};
 ghost use Rattle.part_deque.specs.Rights.{AreSpare};
 ghost use Rattle.part_deque.specs.Steps.{with_rights};
-ghost use Rattle.part_deque.specs.Ends.{SameOwner, AllStolen, AllTaken, after_push, after_pop, after_missed_pop, after_join, first_capacity};
+ghost use Rattle.part_deque.specs.Ends.{SameOwner, AllStolen, AllTaken, after_push, after_pop, after_missed_pop, after_join};
+ghost use Rattle.part_deque.specs.Ends.{first_capacity};
 
 use crate::account::{Joining, Popping, Pushing, Right, RuledWorker, Weighing};
 use crate::thief::PartThief;

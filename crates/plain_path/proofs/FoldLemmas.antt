@@ -12,8 +12,7 @@ use Rattle.loop_meaning.specs.declared.runs.Run.{Run}
 use Rattle.loop_meaning.specs.declared.steps.BodyEnd.{BodyEnd}
 use Rattle.loop_meaning.specs.declared.steps.BodyEnd.TheVariants as end
 use Rattle.loop_meaning.specs.declared.steps.Pair.{Pair}
-use Rattle.loop_meaning.specs.Chosen.{is_skipped, stop_at}
-use Rattle.loop_meaning.specs.Runs.{after_stop, followed_by, loop_run, no_run, with_step}
+use Rattle.loop_meaning.specs.Runs.{after_stop, followed_by, is_skipped, loop_run, no_run, stop_at, with_step}
 use Rattle.loop_meaning.specs.Steps.{Step, body_step}
 use Rattle.loop_meaning.specs.Stores.{start_store}
 use Rattle.loop_meaning.proofs.RunLemmas.{one_more, stopped_run, two_lists}

@@ -3,19 +3,18 @@
 ghost use Rattle.std.specs.Prelude.{◌≡◌, ◌+◌, ◌<◌, ◌≤◌, ◌^◌, [], true, IfOk, OnOk, length};
 ghost use Rattle.loop_grammar.specs.SkippedFaults.{skips_faults};
 ghost use Rattle.loop_meaning.specs.declared.runs.Run.{Run};
-ghost use Rattle.loop_meaning.specs.Chosen.{is_skipped, stop_at};
-ghost use Rattle.loop_meaning.specs.Runs.{no_run};
+ghost use Rattle.loop_meaning.specs.Runs.{is_skipped, no_run, stop_at};
 ghost use Rattle.loop_meaning.specs.Stores.{start_store};
 ghost use Rattle.program_rows.specs.Pairs.{HaveRoom, TakeBehind, numbered, pairs_fit};
 ghost use Rattle.program_rows.specs.Rows.{row_of};
-ghost use Rattle.splittable.specs.Ranges.{most_items};
+ghost use Rattle.number_ranges.specs.Ranges.{most_items};
 ghost use Rattle.plain_path.specs.Paths.{AreHeadItems, HasNoFault, IsEnd, run_over};
 ghost use Rattle.plain_path.specs.Walked.{StandsFor, item_run};
 
 use legality_check::LegalProgram;
 use loop_data::{Many, Value};
 use loop_items::{HeadItems, Walk};
-use loop_meaning::{BodyEnd, Pair, start_store, step_plain};
+use loop_meaning::{BodyEnd, Pair, is_skipped, start_store, step_plain};
 use loop_syntax::Program;
 use loop_values::Env;
 use no_memory::NoMemory;
@@ -41,13 +40,6 @@ struct Walked {
     skipped: u64,
     /// Where an item's pairs are put; empty between items, so that they share its memory.
     emitted: Many<Pair>,
-}
-
-/// Whether the program skips the fault in which a step ended, if it ended so.
-fn is_skipped(program: &Program, end: BodyEnd) -> bool
-    ensures { result ≡ is_skipped (skips_faults program.now) end }
-{
-    program.skips_faults() && matches!(end, BodyEnd::Fault { .. })
 }
 
 /// The run before its first item.

@@ -6,7 +6,7 @@ use Rattle.std.proofs.Math.Nat.{mul-le-mul_left}
 use Rattle.std.proofs.Math.Seq.{take-suc, take-length}
 use Rattle.std.proofs.lemmas.Bool.{cases_lt}
 use Rattle.std.proofs.lemmas.Bool.Decides.{nat_tests}
-use Rattle.splittable.specs.Ranges.{most_items}
+use Rattle.number_ranges.specs.Ranges.{most_items}
 use Rattle.splittable.specs.Places.{item_count, prefix_counts, first_excess, excess_of}
 use Rattle.splittable.specs.Laws.{IsShortestExcess}
 use Rattle.splittable.proofs.Products.{right_positive}

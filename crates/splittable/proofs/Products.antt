@@ -2,6 +2,7 @@
 use Rattle.std.proofs.Common.{◌≡◌, ℕ, zero, suc, ◌+◌, ◌-◌, ◌*◌, ◌/◌, ◌%◌, ◌<◌, ◌≤◌, List, [], ◌∷◌, ◌++◌, length, get_or, replicate, refl, sym, ap, ◌∙◌, arith}
 use Rattle.std.proofs.lemmas.Nat.{div-add-mod', div-mul-add, mod-mul-add, mul-mod_first}
 use Rattle.std.specs.Prelude.{Contains}
+use Rattle.number_ranges.specs.Ranges.{most_items}
 use Rattle.splittable.specs.Places.{item_count}
 
 -- a product is at least 1 only where both factors are
@@ -46,7 +47,7 @@ mod_small : (n : ℕ) → n < 18446744073709551616 → n % 18446744073709551616 
 mod_small n h = omega arith
 
 -- four factors, wrapped at each product, where the whole product is small
-pub wrapped_four : (lens : List ℕ) → length lens ≡ 4 → item_count lens ≤ 4294967296 →
+pub wrapped_four : (lens : List ℕ) → length lens ≡ 4 → item_count lens ≤ most_items →
     get_or lens 0 0 * get_or lens 1 0 % 18446744073709551616 * get_or lens 2 0 % 18446744073709551616 * get_or lens 3 0 % 18446744073709551616 ≡ item_count lens
 wrapped_four (a ∷ b ∷ c ∷ d ∷ []) e few =
     let all : a * (b * (c * (d * 1))) ≡ a * b * c * d = omega arith in

@@ -1,8 +1,8 @@
 -- What the fields of a shape and of a part keep: this project's representation.
-use Rattle.std.specs.Prelude.{◌≡◌, ℕ, ◌+◌, ◌-◌, ◌*◌, ◌/◌, ◌%◌, if◌then◌else◌, nat_le, ◌≤◌, ◌<◌, ◌⊎◌, List, [], ◌∷◌, ◌++◌, length, take, drop, replicate, ℤ, FitsSigned}
+use Rattle.std.specs.Prelude.{◌≡◌, ℕ, ◌+◌, ◌-◌, ◌*◌, ◌/◌, ◌%◌, if◌then◌else◌, nat_le, ◌≤◌, ◌<◌, ◌⊎◌, List, [], ◌∷◌, ◌++◌}
+use Rattle.std.specs.Prelude.{length, take, drop, replicate, ℤ, FitsSigned}
 use Rattle.std.specs.Int.{w64}
-use Rattle.number_ranges.specs.Ranges.{range_item}
-use Rattle.splittable.specs.Ranges.{most_items}
+use Rattle.number_ranges.specs.Ranges.{most_items, range_item}
 use Rattle.splittable.specs.Places.{item_count}
 use Rattle.splittable.specs.Parts.{Stretch}
 

@@ -2,10 +2,12 @@
 -- Source: this project.
 use Rattle.std.specs.Prelude.{◌≡◌, ◌≤◌, ◌<◌, ◌↔◌, ◌⊎◌, ℕ, ◌+◌, ◌-◌, List, [], ◌∷◌, ◌++◌, length, take, Contains}
 use Rattle.std.specs.List.{flat_map, AllByRecursion}
-use Rattle.splittable.specs.Ranges.{most_items}
+use Rattle.number_ranges.specs.Ranges.{most_items}
 use Rattle.splittable.specs.Places.{item_count, first_excess}
-use Rattle.splittable.specs.Parts.{Stretch, part_places, whole_of, numbers_from, left_half, right_half, AreHalves, HoldsPlace, LiesIn, LiesInShape, AreNeighbours}
-use Rattle.splittable.specs.Nodes.{IsNodeAt, IsNode, IsLeaf, HasNodes, leaves_under, leaves_of, least_part_of, most_depth, most_leaves}
+use Rattle.splittable.specs.Parts.{Stretch, part_places, whole_of, numbers_from, left_half, right_half, AreHalves, HoldsPlace}
+use Rattle.splittable.specs.Parts.{LiesIn, LiesInShape, AreNeighbours}
+use Rattle.splittable.specs.Nodes.{IsNodeAt, IsNode, IsLeaf, HasNodes, leaves_under, leaves_of, least_part_of, most_depth}
+use Rattle.splittable.specs.Nodes.{most_leaves}
 
 -- ---- refused shapes
 

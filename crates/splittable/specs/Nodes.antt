@@ -8,8 +8,10 @@ use Rattle.splittable.specs.Parts.{Stretch, left_half, right_half, whole_of}
 -- or a half of a node that can be halved and is longer than the least part size.
 pub data IsNodeAt (lens : List ℕ) (least : ℕ) : ℕ → Stretch → Type 0 where
   the_whole : 1 ≤ item_count lens → IsNodeAt lens least 0 (whole_of lens)
-  the_left : {depth : ℕ} {part : Stretch} → IsNodeAt lens least depth part → 1 < part.len → least < part.len → IsNodeAt lens least (suc depth) (left_half part)
-  the_right : {depth : ℕ} {part : Stretch} → IsNodeAt lens least depth part → 1 < part.len → least < part.len → IsNodeAt lens least (suc depth) (right_half part)
+  the_left : {depth : ℕ} {part : Stretch} → IsNodeAt lens least depth part → 1 < part.len → least < part.len →
+      IsNodeAt lens least (suc depth) (left_half part)
+  the_right : {depth : ℕ} {part : Stretch} → IsNodeAt lens least depth part → 1 < part.len → least < part.len →
+      IsNodeAt lens least (suc depth) (right_half part)
 
 -- the part is a node
 abbrev pub IsNode : List ℕ → ℕ → Stretch → Type 0

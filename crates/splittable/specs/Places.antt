@@ -1,8 +1,9 @@
 -- The items of a shape and their places on its axes: a mixed base, the first axis fastest, all counted from 1.
 -- Source: Julia's `Iterators.product`, whose first part changes fastest; this project's limits.
-use Rattle.std.specs.Prelude.{ℕ, ◌≤◌, ◌<◌, ◌+◌, ◌-◌, ◌*◌, ◌/◌, ◌%◌, if◌then◌else◌, nat_lt, List, [], ◌∷◌, ◌++◌, length, map, take, find, unwrap_or, replicate, slice_index, Option, Some, None, Result, Ok, Err}
+use Rattle.std.specs.Prelude.{ℕ, ◌≤◌, ◌<◌, ◌+◌, ◌-◌, ◌*◌, ◌/◌, ◌%◌, if◌then◌else◌, nat_lt, List, [], ◌∷◌, ◌++◌, length, map}
+use Rattle.std.specs.Prelude.{take, find, unwrap_or, replicate, slice_index, Option, Some, None, Result, Ok, Err}
 use Rattle.std.specs.List.{range_with_len}
-use Rattle.splittable.specs.Ranges.{most_items}
+use Rattle.number_ranges.specs.Ranges.{most_items}
 use Rattle.splittable.specs.declared.shapes.ShapeRefusal.{ShapeRefusal}
 use Rattle.splittable.specs.declared.shapes.ShapeRefusal.TheVariants.{NoAxis, TooManyAxes, TooManyItems}
 

@@ -1,14 +1,10 @@
--- The items of a range first:step:last, or why they are refused; the limit on the items of ranges and shapes.
--- Source: the ranges of Julia, `a:b` and `a:s:b`; the limit is this project's.
-use Rattle.std.specs.Prelude.{ℕ, if◌then◌else◌, nat_lt, List, Result, Ok, Err, ℤ, pos}
+-- The items of a range first:step:last, or why they are refused.
+-- Source: the ranges of Julia, `a:b` and `a:s:b`; the limit on the items is this project's.
+use Rattle.std.specs.Prelude.{if◌then◌else◌, nat_lt, List, Result, Ok, Err, ℤ, pos}
 use Rattle.std.specs.Ordering.{int_eq}
-use Rattle.number_ranges.specs.Ranges.{range_count, range_items}
+use Rattle.number_ranges.specs.Ranges.{most_items, range_count, range_items}
 use Rattle.splittable.specs.declared.ranges.RangeRefusal.{RangeRefusal}
 use Rattle.splittable.specs.declared.ranges.RangeRefusal.TheVariants.{StepZero, TooLong}
-
--- the most items that a range or a shape may have
-abbrev pub most_items : ℕ
-most_items = 4294967296
 
 -- the items of a range, or why they are refused
 abbrev pub checked_range : ℤ → ℤ → ℤ → Result (List ℤ) RangeRefusal

@@ -9,10 +9,12 @@ use Rattle.splittable.specs.declared.shapes.Shape.TheInside.{Inside}
 pub padded-take : (lens : List ℕ) (axes : ℕ) → IsFourAxes lens axes → padded (take axes lens) ≡ lens
 padded-take lens axes h =
     let le : axes ≤ length lens = omega (arith, h.four, h.most) in
-    let back : take axes lens ++ replicate (4 - axes) 1 ≡ lens = ap (λ ys. take axes lens ++ ys) (sym h.padding) ∙ take-append-drop axes lens in
+    let back : take axes lens ++ replicate (4 - axes) 1 ≡ lens =
+    ap (λ ys. take axes lens ++ ys) (sym h.padding) ∙ take-append-drop axes lens in
     rw (length-take-le axes lens le) back
 
-pub fields_back : (s : Inside) → IsFourAxes s.lens s.axes → (record { lens = padded (take s.axes s.lens); axes = length (take s.axes s.lens) }) ≡ s
+pub fields_back : (s : Inside) → IsFourAxes s.lens s.axes →
+    (record { lens = padded (take s.axes s.lens); axes = length (take s.axes s.lens) }) ≡ s
 fields_back s h =
     let le : s.axes ≤ length s.lens = omega (arith, h.four, h.most) in
     rw (padded-take s.lens s.axes h, length-take-le s.axes s.lens le)

@@ -1,6 +1,12 @@
 //! What halving a shape gives: laws, each the contract of a function that does nothing.
 
-ghost use Rattle.splittable.specs.Laws.{ExcessIsShortest, DepthsAreBounded, NodesLieInShape, NodesForSmallerParts, HalvesAreTheNode, HalvesAreNodes, ShorterLiesInLonger, ShorterLiesInHalf, LongerIsHalved, LeafLiesInNode, LeavesAreListed, AllAreLeaves, LeavesAreNeighbours, LeavesAreAllPlaces, LeavesAreFew, LeafHasItself, LongerHasLeavesOfHalves, AllUnderAreLeaves, UnderAreNeighbours, WholeHasLeaves, EmptyHasNoLeaves, NeighboursHaveAllLeaves, NumbersAreCounted, NumbersOfNeighbours, PlacesOfTwo, PlacesOfNeighbours};
+ghost use Rattle.splittable.specs.Laws.{ExcessIsShortest, DepthsAreBounded, NodesLieInShape, NodesForSmallerParts};
+ghost use Rattle.splittable.specs.Laws.{HalvesAreTheNode, HalvesAreNodes, ShorterLiesInLonger, ShorterLiesInHalf};
+ghost use Rattle.splittable.specs.Laws.{LongerIsHalved, LeafLiesInNode, LeavesAreListed, AllAreLeaves, LeavesAreNeighbours};
+ghost use Rattle.splittable.specs.Laws.{LeavesAreAllPlaces, LeavesAreFew, LeafHasItself, LongerHasLeavesOfHalves};
+ghost use Rattle.splittable.specs.Laws.{AllUnderAreLeaves, UnderAreNeighbours, WholeHasLeaves, EmptyHasNoLeaves};
+ghost use Rattle.splittable.specs.Laws.{NeighboursHaveAllLeaves, NumbersAreCounted, NumbersOfNeighbours, PlacesOfTwo};
+ghost use Rattle.splittable.specs.Laws.{PlacesOfNeighbours};
 
 use crate::{Part, Range, Shape};
 

@@ -1,7 +1,7 @@
 //! Parts: stretches of a shape's places.
 
 ghost use Rattle.std.specs.Prelude.{◌≡◌, ◌≤◌, ◌<◌, ◌↔◌, ◌+◌, length, IsNone, IfSome, [], ◌∷◌};
-ghost use Rattle.splittable.specs.Ranges.{most_items};
+ghost use Rattle.number_ranges.specs.Ranges.{most_items};
 ghost use Rattle.splittable.specs.Places.{item_count, places_on_four, AreOnAxes};
 ghost use Rattle.splittable.specs.Parts.{part_places, whole_of, left_half, right_half, AreHalves, HavePlacesOf};
 ghost use Rattle.splittable.specs.Nodes.{HasNodesAlways, least_part_of};

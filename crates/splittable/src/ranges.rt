@@ -1,10 +1,11 @@
 //! Ranges of 64-bit numbers.
 
 ghost use Rattle.std.specs.Prelude.{◌≡◌, ◌-◌, ◌/◌, ◌<◌, ◌≤◌, ◌↔◌, List, ◌++◌, length, IsNone, IfSome, Some, slice_get};
-ghost use Rattle.splittable.specs.Ranges.{checked_range, most_items};
+ghost use Rattle.number_ranges.specs.Ranges.{most_items};
+ghost use Rattle.splittable.specs.Ranges.{checked_range};
 
 use super::halving::Splittable;
-use number_ranges::{range_count, range_item};
+use number_ranges::{MOST_ITEMS, range_count, range_item};
 use std::marker::Model;
 
 /// Why a range is refused.
@@ -15,9 +16,6 @@ pub enum RangeRefusal {
     /// The range has this many items, which is over 4,294,967,296.
     TooLong { count: u128 },
 }
-
-/// The most items that a range or a shape may have.
-pub(crate) const MOST_ITEMS: u128 = 4_294_967_296;
 
 /// A range of numbers: the first, and one for each step that doesn't pass the last. At most 4,294,967,296 items.
 ///
@@ -31,8 +29,7 @@ pub struct Range {
 
 impl Model for Range {
     ghost use Rattle.std.specs.Prelude.{◌≤◌, ℤ, List};
-    ghost use Rattle.number_ranges.specs.Ranges.{items_from};
-    ghost use Rattle.splittable.specs.Ranges.{most_items};
+    ghost use Rattle.number_ranges.specs.Ranges.{items_from, most_items};
     ghost use Rattle.splittable.specs.Fields.{ItemsFit};
 
     ghost Value = { List ℤ };

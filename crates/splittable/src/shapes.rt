@@ -1,14 +1,15 @@
 //! Shapes: products of up to four axes.
 
-ghost use Rattle.std.specs.Prelude.{◌≡◌, ◌≤◌, ◌<◌, ◌↔◌, ◌-◌, ◌+◌, ◌/◌, ◌%◌, ◌++◌, ℕ, length, replicate, All, Contains, IsNone, IfSome};
-ghost use Rattle.splittable.specs.Ranges.{most_items};
+ghost use Rattle.std.specs.Prelude.{◌≡◌, ◌≤◌, ◌<◌, ◌↔◌, ◌-◌, ◌+◌, ◌/◌, ◌%◌, ◌++◌, ℕ, length, replicate, All, Contains, IsNone};
+ghost use Rattle.std.specs.Prelude.{IfSome};
+ghost use Rattle.number_ranges.specs.Ranges.{most_items};
 ghost use Rattle.splittable.specs.Places.{item_count, excess_of, places_after, checked_shape};
 ghost use Rattle.splittable.specs.Parts.{whole_of};
 ghost use Rattle.splittable.specs.Nodes.{IsNode};
 ghost use Rattle.splittable.specs.Fields.{padded, IsBox, IsStride, cut};
 
 use super::parts::Part;
-use super::ranges::MOST_ITEMS;
+use number_ranges::MOST_ITEMS;
 use std::marker::Model;
 
 /// Why a shape is refused.

@@ -11,7 +11,8 @@ use Rattle.stop_word.specs.Steps.{IsStep, IsReached}
 
 -- each kind of step keeps the rule, from each state that meets it
 abbrev pub StepsKeepRule : Type 0
-StepsKeepRule = (word word' : ℕ) (views views' : List StopView) → IsStep word views word' views' → StopRule word views → StopRule word' views'
+StepsKeepRule = (word word' : ℕ) (views views' : List StopView) → IsStep word views word' views' → StopRule word views →
+    StopRule word' views'
 
 -- whatever steps follow the making, the rule holds
 abbrev pub RuleAlwaysHolds : Type 0
@@ -30,7 +31,8 @@ pub record KnowsAll (word : ℕ) (views : List StopView) (v : StopView) : Type 0
 
 abbrev pub WholeWeightKnowsAll : Type 0
 WholeWeightKnowsAll =
-    (word : ℕ) (views : List StopView) (seat : ℕ) (v : StopView) → StopRule word views → get_elem? views seat ≡ some v → v.weight ≡ whole_weight
+    (word : ℕ) (views : List StopView) (seat : ℕ) (v : StopView) → StopRule word views → get_elem? views seat ≡ some v →
+    v.weight ≡ whole_weight
     → KnowsAll word views v
 
 -- the least of some places is one of them

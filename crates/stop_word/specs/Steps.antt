@@ -47,7 +47,8 @@ pub data IsStep : ℕ → List StopView → ℕ → List StopView → Type 0 whe
       → IsStep word views (min word place) (slice_set views seat (view_reported v place word))
   a_split : {word : ℕ} {views : List StopView} {seat : ℕ} {v : StopView} → Holds views seat v
       → IsStep word views word (slice_set views seat (left_view v) ++ right_view v ∷ [])
-  a_join : {word : ℕ} {views : List StopView} {seat other : ℕ} {v w : StopView} → Holds views seat v → Holds views other w → other ≢ seat
+  a_join : {word : ℕ} {views : List StopView} {seat other : ℕ} {v w : StopView} → Holds views seat v → Holds views other w →
+      other ≢ seat
       → IsStep word views word (slice_set (slice_set views seat (both_view v w)) other spent_view)
   a_closing : {word : ℕ} {views : List StopView} {seat : ℕ} {v : StopView} → Holds views seat v → v.weight ≡ whole_weight
       → IsStep word views word views
@@ -55,4 +56,5 @@ pub data IsStep : ℕ → List StopView → ℕ → List StopView → Type 0 whe
 -- the making, and any steps after it, lead to this word and these views
 pub data IsReached : ℕ → List StopView → Type 0 where
   the_making : IsReached no_stop (first_view ∷ [])
-  then_a_step : {word word' : ℕ} {views views' : List StopView} → IsReached word views → IsStep word views word' views' → IsReached word' views'
+  then_a_step : {word word' : ℕ} {views views' : List StopView} → IsReached word views → IsStep word views word' views' →
+      IsReached word' views'

@@ -25,7 +25,8 @@ abbrev pub loads : Step (Unit {0}) → SeatNow → ℕ → SeatNow → Type 0
 loads s before found after = (after ≡ (view_loaded before.0 found, before.1)) × IsFound before.0 found × IsTold after.0
 
 abbrev pub reports : Step (Unit {0}) → SeatNow → ℕ → SeatNow → Type 0
-reports s before found after = (after ≡ (view_reported before.0 s.first found, before.1)) × IsFound before.0 found × IsTold after.0
+reports s before found after =
+    (after ≡ (view_reported before.0 s.first found, before.1)) × IsFound before.0 found × IsTold after.0
 
 abbrev pub looks : Step (Unit {0}) → SeatNow → ℕ → SeatNow → Type 0
 looks s before found after = (after ≡ before) × IsTold after.0

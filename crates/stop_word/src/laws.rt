@@ -3,7 +3,8 @@
 
 ghost use Rattle.std.specs.Prelude.{◌≡◌, []};
 ghost use Rattle.stop_word.specs.Numbers.{no_stop, least_of};
-ghost use Rattle.stop_word.specs.Laws.{StepsKeepRule, RuleAlwaysHolds, WordNeverRises, WholeWeightKnowsAll, LeastIsOne, LeastIsLeast};
+ghost use Rattle.stop_word.specs.Laws.{StepsKeepRule, RuleAlwaysHolds, WordNeverRises, WholeWeightKnowsAll, LeastIsOne};
+ghost use Rattle.stop_word.specs.Laws.{LeastIsLeast};
 
 use crate::{StopSeat, StopWord};
 

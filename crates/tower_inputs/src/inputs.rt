@@ -12,6 +12,9 @@ use loop_values::{Env, EvalStop, eval};
 use no_memory::NoMemory;
 use std::alloc::Global;
 
+/// The most `@reduce` lines of a loop. Contracts call it `most_sites`.
+pub const MOST_SITES: usize = 64;
+
 /// The name under which the place of the item stands.
 const PLACE: &str = "place";
 

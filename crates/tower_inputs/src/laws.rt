@@ -1,6 +1,7 @@
 //! What holds of the definitions, for readers and for callers' proofs: each function is empty, and its contract is the law.
 
-ghost use Rattle.tower_inputs.specs.Laws.{InputFitsTower, StartFitsTower, InputDependsOnItsNames, InputKindsDependOnTheirNames, InputKindsArePlain, InputsHaveThreeFaults, InputKindsDifferOnly};
+ghost use Rattle.tower_inputs.specs.Laws.{InputFitsTower, StartFitsTower, InputDependsOnItsNames, InputKindsDependOnTheirNames};
+ghost use Rattle.tower_inputs.specs.Laws.{InputKindsArePlain, InputsHaveThreeFaults, InputKindsDifferOnly};
 
 /// What `eval_input` gives fits the kind of the tower, where `types_of_input` gives kinds, the values of names fit their kinds
 /// and `place` is bound to a place.

@@ -10,6 +10,6 @@ pub mod laws;
 mod towers;
 mod types;
 
-pub use inputs::eval_input;
+pub use inputs::{MOST_SITES, eval_input};
 pub use towers::{is_same_tower, kind_of_tower};
 pub use types::{are_same_kinds, types_of_input};

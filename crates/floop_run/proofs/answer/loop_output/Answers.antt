@@ -34,7 +34,7 @@ returns-in-Ok-clause-read_fault g c =
 pub returns-in-Err-TooLong-clause-output : goal.returns-in-Err-TooLong-clause-output
 returns-in-Err-TooLong-clause-output g c =
     let q = request_seen c.args.request.now in
-    long_file q (g.F.Files.held c.args.files.now) c.read_named.result c.loop_file-name.result.now (loop_file q) _ _ _ (c.in-Err-TooLong.is ∙ ap Err c.in-Err-TooLong.field-0-is) c.loop_file-name.ensures c.in_ok-refusal-in-Err-TooLong.ensures.answer c.read_named.ensures.answer
+    long_file q (g.F.Files.held c.args.files.now) c.read_named.result c.loop_file-name.result.now (loop_file q) _ _ _ (c.in-Err-TooLong.is ∙ ap Err c.in-Err-TooLong.field-0-is) c.loop_file-name.ensures c.in_ok-too_long-in-Err-TooLong.ensures.answer c.read_named.ensures.answer
 
 pub returns-in-Err-NotHeld-clause-read_fault : goal.returns-in-Err-NotHeld-clause-read_fault
 returns-in-Err-NotHeld-clause-read_fault g c =

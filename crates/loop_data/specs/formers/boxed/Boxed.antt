@@ -49,15 +49,20 @@ module _ (R S : RattleType) (h : R.Denot → S.Denot) where
   unfolding part_of
   box_places a = record {
     mir_same = λ i. (box_row (one_value R (a.mir_same i) (λ _. ftrue) (λ _ _. nothing) gnil)).mir;
-    own_same = λ b i. (box_row (one_value R (a.mir_same i) (a.own_same b.value i) (a.shr_same b.value i) gnil)).own_val (moved b tt);
-    shr_same = λ b i. (box_row (one_value R (a.mir_same i) (a.own_same b.value i) (a.shr_same b.value i) gnil)).shr_at (moved b tt);
+    own_same = λ b i.
+        (box_row (one_value R (a.mir_same i) (a.own_same b.value i) (a.shr_same b.value i) gnil)).own_val (moved b tt);
+    shr_same = λ b i.
+        (box_row (one_value R (a.mir_same i) (a.own_same b.value i) (a.shr_same b.value i) gnil)).shr_at (moved b tt);
   }
 
   held_places : Alike R S h → Alike (inside.the_row R) (inside.the_row S) (held.map R.Denot S.Denot h)
-  held_places a = struct_places (inside.the_type R) (inside.the_type S) ((λ b. moved b (h b.value)), tt) _ (λ b. refl) refl (laid _ _ _ (box_places a), tt)
+  held_places a =
+      struct_places (inside.the_type R) (inside.the_type S) ((λ b. moved b (h b.value)), tt) _ (λ b. refl) refl
+      (laid _ _ _ (box_places a), tt)
 
   pub the_places : Alike R S h → Alike (row.the_row R) (row.the_row S) ((the_former this).map R.Denot S.Denot h)
-  the_places a = view_places held this view (λ X Y k b. refl) (λ X b. refl) R.Denot S.Denot h (row.the_row R).coded (row.the_row S).coded
+  the_places a =
+      view_places held this view (λ X Y k b. refl) (λ X b. refl) R.Denot S.Denot h (row.the_row R).coded (row.the_row S).coded
       (invariant R.Denot) (invariant S.Denot) (λ b p q. refl) (λ b p q. refl) (λ b e. tt) (λ b e. tt)
       (over (inside.the_row R)) (over (inside.the_row S)) (held_places a)
 

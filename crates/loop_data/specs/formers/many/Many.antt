@@ -43,10 +43,14 @@ held = via (vec.the_former this Global) Inside (λ X m. m.held) (λ X v. record 
 
 module _ (R S : RattleType) (h : R.Denot → S.Denot) where
   held_places : Alike R S h → Alike (inside.the_row R) (inside.the_row S) (held.map R.Denot S.Denot h)
-  held_places a = struct_places (inside.the_type R) (inside.the_type S) (vec.mapped h, tt) _ (λ m. refl) refl (laid _ _ _ (vec.the_places heap.the_row ghosts R S h a), tt)
+  held_places a =
+      struct_places (inside.the_type R) (inside.the_type S) (vec.mapped h, tt) _ (λ m. refl) refl
+      (laid _ _ _ (vec.the_places heap.the_row ghosts R S h a), tt)
 
   pub the_places : Alike R S h → Alike (row.the_row R) (row.the_row S) ((the_former this).map R.Denot S.Denot h)
-  the_places a = view_places held (list this) view (λ X Y k m. refl) (λ X m. refl) R.Denot S.Denot h (row.the_row R).coded (row.the_row S).coded
+  the_places a =
+      view_places held (list this) view (λ X Y k m. refl) (λ X m. refl) R.Denot S.Denot h (row.the_row R).coded
+      (row.the_row S).coded
       (invariant R.Denot) (invariant S.Denot) (λ m p q. refl) (λ m p q. refl) (λ m e. tt) (λ m e. tt)
       (over (inside.the_row R)) (over (inside.the_row S)) (held_places a)
 

@@ -1,6 +1,6 @@
 use Rattle.std.proofs.Common.{◌≤◌, ◌<◌, ◌+◌, length, sym, ap, subst, ◌∙◌, arith}
 use Rattle.loop_items.specs.Walks.{IsTaken}
-use Rattle.loop_meaning.specs.Chosen.{stop_at}
+use Rattle.loop_meaning.specs.Runs.{stop_at}
 use Rattle.plain_path.specs.Paths.{run_over}
 use Rattle.plain_path.proofs.FoldLemmas.{break_ends, end_has_room, end_of_done, fault_ends, next_fits, next_has_room, next_stands, not_over, ran_out, skipped_few, walk_goes_on}
 use Rattle.plain_path.proofs.fold.fold_items.Goals as goal

@@ -1,0 +1,14 @@
+pub mod BranchSteps
+pub mod Going
+pub mod HeadGoes
+pub mod HeadKinds
+pub mod HeadLemmas
+pub mod HeadSteps
+pub mod Knowing
+pub mod LineFirst
+pub mod LineLemmas
+pub mod PrintLemmas
+pub mod ReduceLemmas
+pub mod WalkLayers
+pub mod WalkLemmas
+pub mod Walked

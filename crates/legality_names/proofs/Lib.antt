@@ -1,0 +1,5 @@
+pub mod BaseScope
+pub mod DeedLemmas
+pub mod FirstMet
+pub mod NameLemmas
+pub mod Parts

@@ -1,0 +1,4 @@
+pub mod EndedLists
+pub mod ScanLayers
+pub mod ScanLemmas
+pub mod Scanned
