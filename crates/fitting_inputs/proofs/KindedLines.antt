@@ -9,12 +9,11 @@ use Rattle.loop_data.specs.declared.expr.Expr.{Expr, fold-roll-Expr, roll-Expr}
 use Rattle.loop_data.specs.declared.expr.Expr.TheOpen.{Expr-F as e}
 use Rattle.loop_data.specs.declared.tower.TowerExpr.{TowerExpr, fold-roll-TowerExpr, ind-TowerExpr, map-TowerExpr}
 use Rattle.loop_data.specs.declared.tower.TowerExpr.TheOpen.{TowerExpr-F, TowerExpr-F as t}
-use Rattle.loop_grammar.specs.declared.tree.ProgramTree.{ProgramTree}
 use Rattle.loop_values.specs.Kinds.{Kinded, Kinds, Typing, is_bool, is_int, is_maybe, is_text, kind_of, kind_step}
 use Rattle.tower_inputs.specs.InputKinds.{InputKinds, both_kinds, followed_by, input_kinds_step, kind_that, kinds_of_input, takes}
 use Rattle.tower_inputs.specs.Towers.{with_place}
 use Rattle.legality_rules.specs.Lines.{Entry, Form, axis_bounds, condition, entries_of, first_head, init_line, inner_head, keep_line, let_line, print_line, range_bounds, reduce_line, set_line, var_line}
-use Rattle.legality_rules.specs.Offences.{IsLegal, spots_after}
+use Rattle.legality_rules.specs.Offences.{spots_after}
 use Rattle.legality_rules.specs.Rules.{Spot, allowed, has_kind, is_of, items_fit, keeps_kinds, may_start, passes}
 use Rattle.legality_rules.specs.Scopes.{Scope, fits_pattern, item_kind, kinds_in}
 use Rattle.legality_rules.proofs.RuleLemmas.{legal_kinds}

@@ -1,25 +1,23 @@
 -- What a legal loop emits fits the towers of its reducers, has their names, and is few.
-use Rattle.std.proofs.Common.{◌≡◌, ℕ, ◌≤◌, ◌*◌, Bool, true, false, cond, List, [], ◌∷◌, map, length, Option, Some, None, refl, ap, sym, ◌∙◌, arith}
+use Rattle.std.proofs.Common.{◌≡◌, ℕ, ◌≤◌, ◌*◌, Bool, true, false, List, [], ◌∷◌, map, length, Option, Some, None, refl, ap, sym, ◌∙◌, arith}
 use Rattle.std.specs.Prelude.{◌||◌, filter, if◌then◌else◌, is_some, not}
 use Rattle.std.specs.List.{list_any}
 use Rattle.std.specs.Str.{bytes_eq}
 use Rattle.std.proofs.Math.Nat.{mul-le-mul_left}
 use Rattle.std.proofs.lemmas.List.{length-map}
 use Rattle.std.proofs.lemmas.Map.Views.{any-filter_same}
-use Rattle.number_ranges.specs.Ranges.{most_items}
-use Rattle.loop_data.specs.declared.value.Value.{Value}
 use Rattle.loop_data.specs.declared.tower.Kind.{Kind}
 use Rattle.loop_grammar.specs.declared.tree.ProgramTree.{ProgramTree}
 use Rattle.loop_grammar.specs.Texts.{SpellsProgram}
-use Rattle.loop_values.proofs.EntryLemmas.{same_self, same_text}
+use Rattle.loop_values.proofs.EntryLemmas.{same_text}
 use Rattle.legality_rules.specs.Offences.{IsLegal}
 use Rattle.legality_rules.specs.Rules.{items_fit as pattern_takes}
 use Rattle.legality_rules.specs.Scopes.{item_kind}
 use Rattle.loop_meaning.specs.declared.reducers.Site.{Site}
-use Rattle.loop_meaning.specs.Reducers.{each_once, reducers_of, sites_of}
+use Rattle.loop_meaning.specs.Reducers.{each_once, sites_of}
 use Rattle.loop_meaning.specs.Stores.{start_store}
 use Rattle.loop_meaning.proofs.FewLemmas.{runs_few, steps_few}
-use Rattle.fitting_inputs.specs.Laws.{FittingPairsAreNamed, LegalEntriesFit, LegalHeadsHaveKinds, LegalPartsEmitFew, LegalRunsEmitFew, LegalRunsFit, LegalSitesAreFew, LegalStepsEmitFew, LegalStepsFit, LegalStretchesFit, most_pairs, site}
+use Rattle.fitting_inputs.specs.Laws.{FittingPairsAreNamed, LegalHeadsHaveKinds, LegalPartsEmitFew, LegalRunsEmitFew, LegalRunsFit, LegalSitesAreFew, LegalStepsEmitFew, LegalStepsFit, LegalStretchesFit, most_pairs, site}
 use Rattle.fitting_inputs.specs.ReduceLines.{ReduceLine, fits_kind, fits_reducer, kind_among, reduce_lines, reducer_kind}
 use Rattle.fitting_inputs.proofs.EntryFacts.{legal_entries_fit}
 use Rattle.fitting_inputs.proofs.HeadScopes.{PartsFit, parts_fit}
@@ -58,7 +56,7 @@ among n names = list_any (λ m. bytes_eq m n) names
 -- a name is among some just where it is among them each once
 among_once : (n : List ℕ) (names : List (List ℕ)) → among n (each_once names) ≡ among n names
 among_once n [] = refl
-among_once n (x ∷ xs) = at (bytes_eq x n) refl
+among_once n (x ∷ xs) = at (among_once n xs) (bytes_eq x n) refl
   where
     kept : bytes_eq x n ≡ false → (m : List ℕ) → bytes_eq m n ≡ true → not (bytes_eq m x) ≡ true
     kept apart m is = isnt (bytes_eq m x) refl
@@ -67,11 +65,11 @@ among_once n (x ∷ xs) = at (bytes_eq x n) refl
         isnt false e = ap not e
         isnt true e = absurd (let one : bytes_eq x n ≡ true = ap (λ z. bytes_eq z n) (sym (same_text m x e)) ∙ is in cc)
 
-    at : (b : Bool) → bytes_eq x n ≡ b → (bytes_eq x n || among n (filter (λ m. not (bytes_eq m x)) (each_once xs))) ≡ (bytes_eq x n || among n xs)
-    at true e = ap (λ b. b || among n (filter (λ m. not (bytes_eq m x)) (each_once xs))) e ∙ sym (ap (λ b. b || among n xs) e)
-    at false e =
+    at : among n (each_once xs) ≡ among n xs → (b : Bool) → bytes_eq x n ≡ b → (bytes_eq x n || among n (filter (λ m. not (bytes_eq m x)) (each_once xs))) ≡ (bytes_eq x n || among n xs)
+    at rest true e = ap (λ b. b || among n (filter (λ m. not (bytes_eq m x)) (each_once xs))) e ∙ sym (ap (λ b. b || among n xs) e)
+    at rest false e =
         ap (λ b. bytes_eq x n || b)
-        (any-filter_same (λ m. bytes_eq m n) (λ m. not (bytes_eq m x)) true (kept e) (each_once xs) ∙ among_once n xs)
+        (any-filter_same (λ m. bytes_eq m n) (λ m. not (bytes_eq m x)) true (kept e) (each_once xs) ∙ rest)
 
 -- a name that has a kind among `@reduce` lines is the name of one of them
 named_line : (lines : List ReduceLine) (name : List ℕ) → is_some (kind_among lines name) ≡ true → among name (map (λ (line : ReduceLine). line.name) lines) ≡ true

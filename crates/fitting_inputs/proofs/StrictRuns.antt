@@ -1,6 +1,6 @@
 -- No expression that a legal loop may evaluate asks for a default: where it is evaluated the names in scope are bound to values of
 -- their kinds, and it has a kind under these.
-use Rattle.std.proofs.Common.{◌≡◌, ℕ, zero, suc, ◌+◌, ◌*◌, ◌≤◌, Bool, true, List, [], ◌∷◌, ◌++◌, length, map, take, drop, length-take, length-drop, Some, refl, sym, subst, append-nil, arith, codes}
+use Rattle.std.proofs.Common.{◌≡◌, ℕ, zero, suc, ◌+◌, ◌≤◌, true, List, [], ◌∷◌, ◌++◌, length, map, drop, length-take, length-drop, Some, sym, subst, append-nil, arith, codes}
 use Rattle.std.specs.Prelude.{◌-◌, slice_get}
 use Rattle.std.specs.FinMap.{get}
 use Rattle.std.specs.List.{list_all, AllByRecursion}
@@ -27,15 +27,14 @@ use Rattle.loop_meaning.specs.declared.steps.BodyRun.{BodyRun}
 use Rattle.loop_meaning.specs.declared.steps.Flow.TheVariants.{Going}
 use Rattle.loop_meaning.specs.Items.{items_of, sources_of}
 use Rattle.loop_meaning.specs.Statements.{statement_run, while_going}
-use Rattle.loop_meaning.specs.Steps.{body_step, for_item, inner_runs}
-use Rattle.loop_meaning.specs.Stores.{start_store}
+use Rattle.loop_meaning.specs.Steps.{for_item, inner_runs}
 use Rattle.fitting_inputs.specs.Evaluated.{AreKinded, HasKind, InBlock, InBranch, InHeads, InItems, InRun, InStatement, IsStrict, own_expressions}
 use Rattle.fitting_inputs.specs.Fitting.{EntryFits, FitScope, RunFits, Test}
 use Rattle.fitting_inputs.specs.Laws.{LegalRunsAreStrict}
 use Rattle.fitting_inputs.specs.ReduceLines.{fits_reducer}
 use Rattle.fitting_inputs.proofs.BlockLemmas.{blocks_fit}
 use Rattle.fitting_inputs.proofs.EntryFacts.{legal_entries_fit}
-use Rattle.fitting_inputs.proofs.FreshNames.{AreTold, IsTold, all_back, all_both, all_front}
+use Rattle.fitting_inputs.proofs.FreshNames.{AreTold, all_back, all_both, all_front}
 use Rattle.fitting_inputs.proofs.HeadScopes.{PartsFit, after_pattern, before_body, inner_known, of_pattern, of_scratches, of_vars, parts_fit, parts_hold}
 use Rattle.fitting_inputs.proofs.ItemLemmas.{items_fit}
 use Rattle.fitting_inputs.proofs.KindedLines.{legal_expressions_have_kinds}
@@ -83,9 +82,11 @@ module _ (test : Test) where
       slice_get branches i ≡ Some b → (own : List ℕ) × AllByRecursion (Holds test) (branch_listing b own scope)
   branch_holds [] i b word scope all at = absurd (cc)
   branch_holds (c ∷ cs) zero b word scope all at =
-      let here : c ≡ b = cc in
-      (word, subst (λ z. AllByRecursion (Holds test) (branch_listing z word scope)) here
-      (all_front (Holds test) (branch_listing c word scope) (branches_in_turn (codes "elseif") (map branch_listing cs) scope) all))
+      let here : c ≡ b = cc in (
+        word,
+        subst (λ z. AllByRecursion (Holds test) (branch_listing z word scope)) here
+            (all_front (Holds test) (branch_listing c word scope) (branches_in_turn (codes "elseif") (map branch_listing cs) scope) all),
+      )
   branch_holds (c ∷ cs) (suc i) b word scope all at =
       branch_holds cs i b (codes "elseif") scope (all_back (Holds test) (branch_listing c word scope) (branches_in_turn (codes "elseif") (map branch_listing cs) scope) all) at
 
@@ -98,7 +99,7 @@ module _ (test : Test) where
       blocks_fit test (z ∷ []) [] scope run (λ n x e. absurd (cc)) (subst (AllByRecursion (EntryFits test)) (sym (append-nil entries)) fitting) fit
 
   mutual
-    pub block_strict : {block : List Statement} {run : BodyRun} {x : Expr} {names : Bindings} → InBlock block run x names → (scope : Scope) →
+    block_strict : {block : List Statement} {run : BodyRun} {x : Expr} {names : Bindings} → InBlock block run x names → (scope : Scope) →
         AllByRecursion (Holds test) (lines.in_turn (map statement_listing block) scope) → RunFits test [] scope run → IsStrict x names
     block_strict (InBlock.here {z = z} {zs = zs} on inside) scope all fit =
         statement_strict inside scope
@@ -110,26 +111,26 @@ module _ (test : Test) where
 
     statement_strict : {z : Statement} {run : BodyRun} {x : Expr} {names : Bindings} → InStatement z run x names → (scope : Scope) →
         AllByRecursion (Holds test) (statement_listing z scope).entries → run.flow ≡ Going → RunFits test [] scope run → IsStrict x names
-    statement_strict (InStatement.own {layer = layer} {run = run} {x = x} {i = i} at) scope all on fit =
+    statement_strict (InStatement.own layer {run = run} {x = x} {i = i} at) scope all on fit =
         let here = subst (λ (l : Listing). AllByRecursion (Holds test) (l scope).entries) (fold-roll-Statement Listing Branched lines.statement_step lines.branch_step layer) all in
         strict x scope run.names (of_all (HasKind scope) (own_expressions layer) i x (own_kinded layer scope here) at) (fit.going on) fit.placed
-    statement_strict (InStatement.in_branch {line = line} {else_line = else_line} {end_line = end_line} {i = i} {branches = branches} {other = other} {b = b} at inside) scope all on fit =
+    statement_strict (InStatement.in_branch line else_line end_line branches other {i = i} {b = b} at inside) scope all on fit =
         let here = subst (λ (l : Listing). AllByRecursion (Holds test) (l scope).entries)
         (fold-roll-Statement Listing Branched lines.statement_step lines.branch_step (s.If line branches else_line other end_line)) all in
         let first = all_front (Holds test) (branches_in_turn (codes "if") (map branch_listing branches) scope) (lines.in_turn (map statement_listing other) scope) here in
         let branch = branch_holds branches i b (codes "if") scope first at in
         branch_strict inside scope branch.0 branch.1 on fit
-    statement_strict (InStatement.in_else {line = line} {else_line = else_line} {end_line = end_line} {branches = branches} {other = other} inside) scope all on fit =
+    statement_strict (InStatement.in_else line else_line end_line branches other inside) scope all on fit =
         let here = subst (λ (l : Listing). AllByRecursion (Holds test) (l scope).entries)
         (fold-roll-Statement Listing Branched lines.statement_step lines.branch_step (s.If line branches else_line other end_line)) all in
         block_strict inside scope (all_back (Holds test) (branches_in_turn (codes "if") (map branch_listing branches) scope) (lines.in_turn (map statement_listing other) scope) here) fit
 
     branch_strict : {b : Branch} {run : BodyRun} {x : Expr} {names : Bindings} → InBranch b run x names → (scope : Scope) (word : List ℕ) →
         AllByRecursion (Holds test) (branch_listing b word scope) → run.flow ≡ Going → RunFits test [] scope run → IsStrict x names
-    branch_strict (InBranch.test {b = b} {run = run}) scope word all on fit =
+    branch_strict (InBranch.in_test b {run = run}) scope word all on fit =
         let here = subst (λ (l : Branched). AllByRecursion (Holds test) (l word scope)) (fold-roll-Branch Listing Branched lines.statement_step lines.branch_step b) all in
         strict b.test scope run.names here.0.kinded.0 (fit.going on) fit.placed
-    branch_strict (InBranch.block {b = b} inside) scope word all on fit =
+    branch_strict (InBranch.in_block b inside) scope word all on fit =
         let here = subst (λ (l : Branched). AllByRecursion (Holds test) (l word scope)) (fold-roll-Branch Listing Branched lines.statement_step lines.branch_step b) all in
         block_strict inside scope here.1 fit
 
@@ -173,19 +174,19 @@ module _ (test : Test) (program : ProgramTree) (parts : PartsFit test program) (
   mutual
     heads_strict : {heads : List Inner} {width : ℕ} {run : BodyRun} {x : Expr} {names : Bindings} → InHeads program heads width run x names → (some now : Scope) →
         UnderHeads heads some now → StandsFit test some run → IsStrict x names
-    heads_strict (InHeads.body {run = run} inside) some now u st =
+    heads_strict (InHeads.in_body {run = run} inside) some now u st =
         let fit = bound_fit scope run.names (u.whole run.names st.bound tt) in
         block_strict test inside scope body_holds (record { around = none_agree (get run.names); placed = st.placed; going = λ on. fit; emitted = st.emitted })
-    heads_strict (InHeadst.bound {head = head} {i = i} {run = run} {x = x} at) some now u st =
+    heads_strict (InHeads.of_bound {head = head} {i = i} {run = run} {x = x} at) some now u st =
         strict x now run.names (of_all (HasKind now) (range_bounds head.range) i x u.bounds.0 at) (bound_fit now run.names (u.here run.names st.bound)) st.placed
-    heads_strict (InHeads.item is inside) some now u st = items_strict inside some now u st
+    heads_strict (InHeads.of_item is inside) some now u st = items_strict inside some now u st
 
     items_strict : {head : Inner} {heads : List Inner} {width : ℕ} {items : List ℤ} {run : BodyRun} {x : Expr} {names : Bindings} → InItems program head heads width items run x names →
         (some now : Scope) → UnderHeads (head ∷ heads) some now → StandsFit test some run → IsStrict x names
-    items_strict (InItems.first {head = head} {heads = heads} {item = item} {run = run} inside) some now u st =
+    items_strict (InItems.at_item {head = head} {heads = heads} {item = item} {run = run} inside) some now u st =
         heads_strict inside (inner_known head ∷ some) (now ++ inner_known head ∷ []) (under_one head heads some now u)
         (item_stands test program parts.body told some head u.told_some u.told_heads.0 item run st)
-    items_strict (InItems.next {head = head} {heads = heads} {width = width} {item = item} {run = run} inside) some now u st =
+    items_strict (InItems.past_item {head = head} {heads = heads} {width = width} {item = item} {run = run} inside) some now u st =
         let under = under_one head heads some now u in
         let kept : KeepsFit test (inner_known head ∷ some) (inner_runs program heads width) =
         heads_fit test program parts.body told heads (inner_known head ∷ some) width under.told_some under.told_heads under.whole in
@@ -208,7 +209,7 @@ module _ (test : Test) (program : ProgramTree) (parts : PartsFit test program) (
   }
 
   module _ (kind : ValueKind) (is : item_kind program.head.product program.head.axes ≡ Some kind) where
-    pub run_strict : {store : Bindings} {items : List Value} {place : ℕ} {x : Expr} {names : Bindings} → InRun program store items place x names → list_all (fits kind) items ≡ true →
+    run_strict : {store : Bindings} {items : List Value} {place : ℕ} {x : Expr} {names : Bindings} → InRun program store items place x names → list_all (fits kind) items ≡ true →
         1 ≤ place → (1 ≤ length items → place + length items ≤ most_items + 1) → AreBound store stored → IsStrict x names
     run_strict (InRun.at_first {store = store} {item = item} {items = items} {place = place} inside) fit least most h =
         let both = and_parts (fits kind item) (list_all (fits kind) items) fit in

@@ -80,19 +80,20 @@ mutual
   -- InStatement z run x names: from a body run that stands so, and goes on, the statement z may evaluate x, and `names` are then
   -- the names with their values.
   pub data InStatement : Statement → BodyRun → Expr → Bindings → Type 0 where
-    own : {layer : Statement-F Statement Branch} {run : BodyRun} {x : Expr} {i : ℕ} →
+    own : (layer : Statement-F Statement Branch) {run : BodyRun} {x : Expr} {i : ℕ} →
         slice_get (own_expressions layer) i ≡ Some x → InStatement (roll-Statement layer) run x run.names
-    in_branch : {line else_line end_line i : ℕ} {branches : List Branch} {other : List Statement} {b : Branch}
-        {run : BodyRun} {x : Expr} {names : Bindings} → slice_get branches i ≡ Some b → InBranch b run x names →
+    in_branch : (line else_line end_line : ℕ) (branches : List Branch) (other : List Statement)
+        {i : ℕ} {b : Branch} {run : BodyRun} {x : Expr} {names : Bindings} →
+        slice_get branches i ≡ Some b → InBranch b run x names →
         InStatement (roll-Statement (s.If line branches else_line other end_line)) run x names
-    in_else : {line else_line end_line : ℕ} {branches : List Branch} {other : List Statement}
+    in_else : (line else_line end_line : ℕ) (branches : List Branch) (other : List Statement)
         {run : BodyRun} {x : Expr} {names : Bindings} → InBlock other run x names →
         InStatement (roll-Statement (s.If line branches else_line other end_line)) run x names
 
   -- the same of a condition with its block, whether it is true or not
   pub data InBranch : Branch → BodyRun → Expr → Bindings → Type 0 where
-    test : {b : Branch-F Statement Branch} {run : BodyRun} → InBranch (roll-Branch b) run b.test run.names
-    block : {b : Branch-F Statement Branch} {run : BodyRun} {x : Expr} {names : Bindings} →
+    in_test : (b : Branch-F Statement Branch) {run : BodyRun} → InBranch (roll-Branch b) run b.test run.names
+    in_block : (b : Branch-F Statement Branch) {run : BodyRun} {x : Expr} {names : Bindings} →
         InBlock b.block run x names → InBranch (roll-Branch b) run x names
 
   -- the same of statements one after another, each from how those before it left the body run
@@ -108,20 +109,20 @@ mutual
   -- InHeads program heads width run x names: the same of the body runs of these inner heads, of which there are `width` already:
   -- the bounds of each range, and what the body may evaluate for each innermost item.
   pub data InHeads (program : ProgramTree) : List Inner → ℕ → BodyRun → Expr → Bindings → Type 0 where
-    body : {width : ℕ} {run : BodyRun} {x : Expr} {names : Bindings} →
+    in_body : {width : ℕ} {run : BodyRun} {x : Expr} {names : Bindings} →
         InBlock program.body run x names → InHeads program [] width run x names
-    bound : {head : Inner} {heads : List Inner} {width i : ℕ} {run : BodyRun} {x : Expr} →
+    of_bound : {head : Inner} {heads : List Inner} {width i : ℕ} {run : BodyRun} {x : Expr} →
         slice_get (range_bounds head.range) i ≡ Some x → InHeads program (head ∷ heads) width run x run.names
-    item : {head : Inner} {heads : List Inner} {width : ℕ} {items : List ℤ} {run : BodyRun} {x : Expr} {names : Bindings} →
+    of_item : {head : Inner} {heads : List Inner} {width : ℕ} {items : List ℤ} {run : BodyRun} {x : Expr} {names : Bindings} →
         inner_items head.range (get run.names) width ≡ Ok items →
         InItems program head heads (width * length items) items run x names → InHeads program (head ∷ heads) width run x names
 
   -- the same of the body runs of these items of an inner head, one after another, with the heads under it
   pub data InItems (program : ProgramTree) : Inner → List Inner → ℕ → List ℤ → BodyRun → Expr → Bindings → Type 0 where
-    first : {head : Inner} {heads : List Inner} {width : ℕ} {item : ℤ} {items : List ℤ}
+    at_item : {head : Inner} {heads : List Inner} {width : ℕ} {item : ℤ} {items : List ℤ}
         {run : BodyRun} {x : Expr} {names : Bindings} → InHeads program heads width (naming head.name (Int item) run) x names →
         InItems program head heads width (item ∷ items) run x names
-    next : {head : Inner} {heads : List Inner} {width : ℕ} {item : ℤ} {items : List ℤ}
+    past_item : {head : Inner} {heads : List Inner} {width : ℕ} {item : ℤ} {items : List ℤ}
         {run : BodyRun} {x : Expr} {names : Bindings} →
         InItems program head heads width items
         (while_going (for_item program head.name (inner_runs program heads width) item) run) x names →

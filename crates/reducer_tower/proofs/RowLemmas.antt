@@ -1,11 +1,10 @@
 -- One more input of a row goes to the tower of its number, and to no other.
-use Rattle.std.proofs.Common.{◌≡◌, ◌≢◌, ℕ, zero, suc, ◌+◌, ◌^◌, ◌<◌, ◌≤◌, List, [], ◌∷◌, ◌++◌, length, map, Bool, true, false, cond, Option, Some, None, ◌⊎◌, inl, inr, refl, sym, ap, subst, ◌∙◌, arith, append-nil, append_assoc, length-append, get_or, true≢false, eq-eqb}
-use Rattle.std.specs.Prelude.{◌==◌, ◌&&◌, filter, slice_get, slice_set}
+use Rattle.std.proofs.Common.{◌≡◌, ◌≢◌, ℕ, zero, suc, ◌+◌, ◌^◌, ◌<◌, ◌≤◌, List, [], ◌∷◌, ◌++◌, length, Bool, true, false, cond, Option, Some, ◌⊎◌, inl, inr, refl, sym, ap, subst, ◌∙◌, arith, append-nil, append_assoc, length-append, get_or, true≢false}
+use Rattle.std.specs.Prelude.{◌==◌, ◌&&◌, slice_get, slice_set}
 use Rattle.std.specs.List.{list_all, position}
 use Rattle.std.proofs.lemmas.Bool.{eqb-true, eqb-false}
 use Rattle.std.proofs.lemmas.Option.{slice_get_within, slice_get-get_or}
-use Rattle.std.proofs.lemmas.List.{map-append, length-set}
-use Rattle.std.proofs.lemmas.List.Elements.{filter-append}
+use Rattle.std.proofs.lemmas.List.{length-set}
 use Rattle.std.proofs.lemmas.List.Quantifiers.{position-Some}
 use Rattle.loop_data.specs.declared.value.Value.{Value}
 use Rattle.reducer_laws.specs.Standing.{MayTake, MayMerge, TakesNext, TakesTogether}
@@ -13,7 +12,7 @@ use Rattle.reducer_tower.specs.declared.row.Emitted.{Emitted}
 use Rattle.reducer_tower.specs.declared.named.Named.{Named}
 use Rattle.reducer_tower.specs.declared.state.TowerState.{TowerState}
 use Rattle.reducer_tower.specs.Stands.{Stands}
-use Rattle.reducer_tower.specs.Rows.{RowStands, StandWithStarts, inputs_of, start_fits, started_by, starts_from, starts_of}
+use Rattle.reducer_tower.specs.Rows.{RowStands, StandWithStarts, inputs_of, start_fits, started_by}
 use Rattle.reducer_tower.proofs.InputLemmas.{few, inputs_of-append, one_of, starts_come_first}
 
 -- ---- a list with one item set

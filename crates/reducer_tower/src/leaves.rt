@@ -31,7 +31,11 @@ pub(crate) fn sum_next(alloc: Global, state: &mut TowerState, input: Value) -> R
     }
 }
 
-pub(crate) fn sum_merge(alloc: Global, left: TowerState, right: TowerState) -> Result<TowerState, NoMemory>
+pub(crate) fn sum_merge(
+    alloc: Global,
+    left: TowerState,
+    right: TowerState,
+) -> Result<TowerState, NoMemory>
     requires { MayMerge SumStands left right }
     ensures { IfOk result (TakesTogether SumStands left right) }
 {
@@ -85,7 +89,11 @@ pub(crate) fn count_unit(alloc: Global) -> Result<TowerState, NoMemory>
     Ok(TowerState::Count(Count::new().unit(alloc)?))
 }
 
-pub(crate) fn count_next(alloc: Global, state: &mut TowerState, input: Value) -> Result<(), NoMemory>
+pub(crate) fn count_next(
+    alloc: Global,
+    state: &mut TowerState,
+    input: Value,
+) -> Result<(), NoMemory>
     requires { MayTake CountStands state.old }
     ensures { OnOk result (TakesNext CountStands state.old input state.new) }
 {

@@ -132,7 +132,11 @@ pub(crate) fn grouped_merge<N: Nested>(
     }
 }
 
-pub(crate) fn both_unit<N: Nested>(alloc: Global, left: &N, right: &N) -> Result<TowerState, NoMemory>
+pub(crate) fn both_unit<N: Nested>(
+    alloc: Global,
+    left: &N,
+    right: &N,
+) -> Result<TowerState, NoMemory>
     ensures { IfOk result (λ state. BothStand (N.stands left.now) (N.stands right.now) state []) }
 {
     let left = Boxed::new(alloc, left.unit(alloc)?)?;
