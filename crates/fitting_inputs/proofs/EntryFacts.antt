@@ -109,7 +109,8 @@ fresh_at spot sound e =
 
 -- ---- inputs
 
-given : (start : Option Value) (r : InputKinds) → inputs_fit start (where_given r) ≡ true → (xs : List ValueKind) × (r ≡ Ok xs)
+-- a tower whose inputs fit has kinds of them
+pub given : (start : Option Value) (r : InputKinds) → inputs_fit start (where_given r) ≡ true → (xs : List ValueKind) × (r ≡ Ok xs)
 given start (Ok xs) e = (xs, refl)
 given None (Err s) e = absurd (cc)
 given (Some v) (Err s) e = absurd (cc)

@@ -71,10 +71,15 @@ scope_of_two : (xs ys : List Listing) (scope : Scope) → scope_after (xs ++ ys)
 scope_of_two [] ys scope = refl
 scope_of_two (x ∷ xs) ys scope = scope_of_two xs ys (scope_after (x ∷ []) scope)
 
-module _ (test : Test) (program : ProgramTree) where
-  abbrev Fit : List Entry → Type 0
-  Fit entries = AllByRecursion (EntryFits test) entries
+-- what holds of each entry of listings one after another holds of those of the first
+front_holds : (P : Entry → Type 0) (xs ys : List Listing) (scope : Scope) → AllByRecursion P (in_turn (xs ++ ys) scope) → AllByRecursion P (in_turn xs scope)
+front_holds P xs ys scope all = all_front P (in_turn xs scope) (in_turn ys (scope_after xs scope)) (subst (AllByRecursion P) (entries_of_two xs ys scope) all)
 
+-- and of those of the others, from the names in scope after the first
+back_holds : (P : Entry → Type 0) (xs ys : List Listing) (scope : Scope) → AllByRecursion P (in_turn (xs ++ ys) scope) → AllByRecursion P (in_turn ys (scope_after xs scope))
+back_holds P xs ys scope all = all_back P (in_turn xs scope) (in_turn ys (scope_after xs scope)) (subst (AllByRecursion P) (entries_of_two xs ys scope) all)
+
+module _ (program : ProgramTree) where
   abbrev vars : List Listing
   vars = map var_listing program.vars
 
@@ -90,13 +95,6 @@ module _ (test : Test) (program : ProgramTree) where
   abbrev statements : List Listing
   statements = map statement_listing program.body
 
-  -- listings one after another fit, first and then, from the names in scope after the first
-  front_fits : (xs ys : List Listing) (scope : Scope) → Fit (in_turn (xs ++ ys) scope) → Fit (in_turn xs scope)
-  front_fits xs ys scope fit = all_front (EntryFits test) (in_turn xs scope) (in_turn ys (scope_after xs scope)) (subst Fit (entries_of_two xs ys scope) fit)
-
-  back_fits : (xs ys : List Listing) (scope : Scope) → Fit (in_turn (xs ++ ys) scope) → Fit (in_turn ys (scope_after xs scope))
-  back_fits xs ys scope fit = all_back (EntryFits test) (in_turn xs scope) (in_turn ys (scope_after xs scope)) (subst Fit (entries_of_two xs ys scope) fit)
-
   vars_scope : (scope : Scope) → scope_after vars scope ≡ scope ++ of_vars program
   vars_scope scope = scope_of_lines var_listing (literal_known Variable) (λ b s. refl) program.vars scope
 
@@ -106,13 +104,43 @@ module _ (test : Test) (program : ProgramTree) where
   scratches_scope : (scope : Scope) → scope_after scratches scope ≡ scope ++ of_scratches program
   scratches_scope scope = scope_of_lines init_listing (literal_known Scratch) (λ b s. refl) program.scratch scope
 
-  vars_fresh : (scope : Scope) → Fit (in_turn vars scope) → ComeFresh scope (of_vars program)
+  before_scratches : scope_after (vars ++ heads) [] ≡ after_heads program
+  before_scratches = scope_of_two vars heads [] ∙ ap (scope_after heads) (vars_scope []) ∙ inner_scope (after_pattern program)
+
+  body_scope : scope_after ((vars ++ heads) ++ scratches) [] ≡ before_body program
+  body_scope = scope_of_two (vars ++ heads) scratches [] ∙ ap (scope_after scratches) before_scratches ∙ scratches_scope (after_heads program)
+
+  -- What holds of each entry of a program, part by part: of its `var` lines, of its heads after the names of these, of its `@init`
+  -- lines after its heads, and of its body after all of these.
+  pub record PartsHold (P : Entry → Type 0) : Type 0 where
+    pub on_vars : AllByRecursion P (in_turn vars [])
+    pub on_heads : AllByRecursion P (in_turn heads (of_vars program))
+    pub on_scratches : AllByRecursion P (in_turn scratches (after_heads program))
+    pub on_body : AllByRecursion P (in_turn statements (before_body program))
+
+  pub parts_hold : (P : Entry → Type 0) → AllByRecursion P (entries_of program) → PartsHold P
+  parts_hold P all =
+      let to_body = front_holds P (((vars ++ heads) ++ scratches) ++ statements) (map print_listing program.prints) [] all in
+      let to_scratches = front_holds P ((vars ++ heads) ++ scratches) statements [] to_body in
+      let to_heads = front_holds P (vars ++ heads) scratches [] to_scratches in
+      record {
+        on_vars = front_holds P vars heads [] to_heads;
+        on_heads = subst (λ s. AllByRecursion P (in_turn heads s)) (vars_scope []) (back_holds P vars heads [] to_heads);
+        on_scratches = subst (λ s. AllByRecursion P (in_turn scratches s)) before_scratches (back_holds P (vars ++ heads) scratches [] to_scratches);
+        on_body = subst (λ s. AllByRecursion P (in_turn statements s)) body_scope (back_holds P ((vars ++ heads) ++ scratches) statements [] to_body);
+      }
+
+module _ (test : Test) (program : ProgramTree) where
+  abbrev Fit : List Entry → Type 0
+  Fit entries = AllByRecursion (EntryFits test) entries
+
+  vars_fresh : (scope : Scope) → Fit (in_turn (vars program) scope) → ComeFresh scope (of_vars program)
   vars_fresh scope fit = lines_fresh var_listing (literal_known Variable) (λ b s. refl) test (λ b s fits. lone_new s b.name fits.0.says) program.vars scope fit
 
-  inner_fresh : (scope : Scope) → Fit (in_turn inner scope) → ComeFresh scope (of_inner program)
+  inner_fresh : (scope : Scope) → Fit (in_turn (inner program) scope) → ComeFresh scope (of_inner program)
   inner_fresh scope fit = lines_fresh (inner_listing program.head) inner_known (λ i s. refl) test (λ i s fits. lone_new s i.name fits.0.says) program.head.inner scope fit
 
-  scratches_fresh : (scope : Scope) → Fit (in_turn scratches scope) → ComeFresh scope (of_scratches program)
+  scratches_fresh : (scope : Scope) → Fit (in_turn (scratches program) scope) → ComeFresh scope (of_scratches program)
   scratches_fresh scope fit = lines_fresh init_listing (literal_known Scratch) (λ b s. refl) test (λ b s fits. lone_new s b.name fits.0.says) program.scratch scope fit
 
   -- the pattern's names come into scope together
@@ -121,27 +149,15 @@ module _ (test : Test) (program : ProgramTree) where
       names_fresh scope (of_pattern program)
       (subst (AreFresh scope) (sym (pattern_names LoopVariable program.head.names (pattern_kinds program.head.names (item_kind program.head.product program.head.axes)))) fresh)
 
-  before_scratches : scope_after (vars ++ heads) [] ≡ after_heads program
-  before_scratches = scope_of_two vars heads [] ∙ ap (scope_after heads) (vars_scope []) ∙ inner_scope (after_pattern program)
-
-  body_scope : scope_after ((vars ++ heads) ++ scratches) [] ≡ before_body program
-  body_scope = scope_of_two (vars ++ heads) scratches [] ∙ ap (scope_after scratches) before_scratches ∙ scratches_scope (after_heads program)
-
   pub parts_fit : Fit (entries_of program) → PartsFit test program
   parts_fit fit =
-      let to_body = front_fits (((vars ++ heads) ++ scratches) ++ statements) (map print_listing program.prints) [] fit in
-      let to_scratches = front_fits ((vars ++ heads) ++ scratches) statements [] to_body in
-      let to_heads = front_fits (vars ++ heads) scratches [] to_scratches in
-      let of_heads : Fit (in_turn heads (of_vars program)) = subst (λ s. Fit (in_turn heads s)) (vars_scope []) (back_fits vars heads [] to_heads) in
-      let of_scratches_too : Fit (in_turn scratches (after_heads program)) =
-      subst (λ s. Fit (in_turn scratches s)) before_scratches (back_fits (vars ++ heads) scratches [] to_scratches) in
+      let parts = parts_hold program (EntryFits test) fit in
       let two : ComeFresh [] (after_pattern program) =
-      fresh_joined [] (of_vars program) (of_pattern program) (vars_fresh [] (front_fits vars heads [] to_heads)) (pattern_fresh (of_vars program) of_heads.0.says.0) in
+      fresh_joined [] (of_vars program) (of_pattern program) (vars_fresh [] parts.on_vars) (pattern_fresh (of_vars program) parts.on_heads.0.says.0) in
       let three : ComeFresh [] (after_heads program) =
-      fresh_joined [] (after_pattern program) (of_inner program) two (inner_fresh (after_pattern program) of_heads.1) in
+      fresh_joined [] (after_pattern program) (of_inner program) two (inner_fresh (after_pattern program) parts.on_heads.1) in
       record {
-        fresh = fresh_joined [] (after_heads program) (of_scratches program) three
-            (scratches_fresh (after_heads program) of_scratches_too);
-        takes = of_heads.0.says.1;
-        body = subst (λ s. Fit (in_turn statements s)) body_scope (back_fits ((vars ++ heads) ++ scratches) statements [] to_body);
+        fresh = fresh_joined [] (after_heads program) (of_scratches program) three (scratches_fresh (after_heads program) parts.on_scratches);
+        takes = parts.on_heads.0.says.1;
+        body = parts.on_body;
       }

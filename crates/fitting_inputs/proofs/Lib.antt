@@ -4,6 +4,7 @@ mod EntrySpots
 pub mod FreshNames
 pub mod HeadScopes
 pub mod ItemLemmas
+pub mod KindedLines
 pub mod LegalRuns
 pub mod NameLemmas
 pub mod PatternLemmas
@@ -13,3 +14,4 @@ pub mod RunLemmas
 pub mod SiteLemmas
 pub mod StepLemmas
 pub mod StoreLemmas
+pub mod StrictRuns

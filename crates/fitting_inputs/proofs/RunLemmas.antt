@@ -1,6 +1,6 @@
 -- Whole runs: from the store in which a loop begins, each step leaves a store whose names fit, and each pair that counts passes the
 -- test.
-use Rattle.std.proofs.Common.{◌≡◌, ℕ, ◌+◌, ◌≤◌, Bool, true, false, List, [], ◌∷◌, ◌++◌, length, Option, Some, None, refl, ap, sym, ◌∙◌, subst, arith, pos}
+use Rattle.std.proofs.Common.{◌≡◌, ℕ, zero, suc, ◌+◌, ◌-◌, ◌≤◌, Bool, true, false, List, [], ◌∷◌, ◌++◌, length, take, drop, length-take, length-drop, Option, Some, None, refl, ap, sym, ◌∙◌, subst, arith, pos}
 use Rattle.std.specs.Prelude.{not, int_lt}
 use Rattle.std.specs.List.{list_all, AllByRecursion}
 use Rattle.std.specs.FinMap.{empty, get, insert}
@@ -57,7 +57,7 @@ step_first test true (end.Fault line kind) step place rest h k = k
 step_first test false (end.Fault line kind) step place rest h k = h
 
 -- what a step does from a store whose names fit
-record StepFits (test : Test) (stored : Scope) (step : Step) : Type 0 where
+pub record StepFits (test : Test) (stored : Scope) (step : Step) : Type 0 where
   pub emitted : list_all test step.emitted ≡ true
   pub store : AreBound step.store stored
 
@@ -74,7 +74,7 @@ module _ (test : Test) (program : ProgramTree) (parts : PartsFit test program) w
 
   -- ---- what is told of the parts of the scope before the body
 
-  all_told : AreTold kinds scope
+  pub all_told : AreTold kinds scope
   all_told = fresh_told [] scope parts.fresh
 
   told_to_inner : AreTold kinds (after_heads program)
@@ -86,7 +86,7 @@ module _ (test : Test) (program : ProgramTree) (parts : PartsFit test program) w
   told_to_pattern : AreTold kinds (after_pattern program)
   told_to_pattern = all_front (IsTold kinds) (after_pattern program) (of_inner program) told_to_inner
 
-  told_inner : AreTold kinds (of_inner program)
+  pub told_inner : AreTold kinds (of_inner program)
   told_inner = all_back (IsTold kinds) (after_pattern program) (of_inner program) told_to_inner
 
   told_vars : AreTold kinds (of_vars program)
@@ -99,7 +99,7 @@ module _ (test : Test) (program : ProgramTree) (parts : PartsFit test program) w
   told_stored = all_both (IsTold kinds) (of_vars program) (of_scratches program) told_vars told_scratches
 
   -- the names of the pattern, of the store and of the inner heads are all
-  all_bound : (env : Bindings) → AreBound env (of_pattern program ++ stored) → AreBound env (of_inner program) → AreBound env scope
+  pub all_bound : (env : Bindings) → AreBound env (of_pattern program ++ stored) → AreBound env (of_inner program) → AreBound env scope
   all_bound env some inner =
       let names = all_front (IsBound env) (of_pattern program) stored some in
       let kept = all_back (IsBound env) (of_pattern program) stored some in
@@ -111,7 +111,7 @@ module _ (test : Test) (program : ProgramTree) (parts : PartsFit test program) w
   -- ---- stores and steps
 
   -- in the store in which a loop begins each name is bound to what fits
-  start_fits : AreBound (start_store program) stored
+  pub start_fits : AreBound (start_store program) stored
   start_fits =
       let vars = literals_bound kinds Variable program.vars empty [] told_vars tt tt in
       let both = literals_bound kinds Scratch program.scratch (variables program) (of_vars program) told_scratches told_vars vars.1 in
@@ -130,18 +130,25 @@ module _ (test : Test) (program : ProgramTree) (parts : PartsFit test program) w
       (pattern_bound kinds LoopVariable ns x item (insert store place_name (Int (pos place))) stored takes fit (subst (AreTold kinds) known told_pattern) told_stored
       (place_bound kinds store (Int (pos place)) stored told_stored h) placed)
 
-  step_fits : (store : Bindings) (item : Value) (place : ℕ) (x : ValueKind) → item_kind program.head.product program.head.axes ≡ Some x → fits x item ≡ true →
-      1 ≤ place → place ≤ most_items → AreBound store stored → StepFits test stored (body_step program store item place)
-  step_fits store item place x is fit least most h =
+  -- the body run before the first statement
+  pub first_stands : (store : Bindings) (item : Value) (place : ℕ) (x : ValueKind) → item_kind program.head.product program.head.axes ≡ Some x → fits x item ≡ true →
+      1 ≤ place → place ≤ most_items → AreBound store stored → StandsFit test (of_pattern program ++ stored) (first_run (names_for program store item place))
+  first_stands store item place x is fit least most h =
       let before = names_fit store item place x is fit least most h in
-      let first : StandsFit test (of_pattern program ++ stored) (first_run (names_for program store item place)) = record {
+      record {
         bound = all_both (IsBound (names_for program store item place)) (of_pattern program) stored before.names before.others;
         placed = before.placed;
         emitted = refl;
-      } in
-      let told : AreTold kinds (of_pattern program ++ stored) = all_both (IsTold kinds) (of_pattern program) stored told_pattern told_stored in
-      let done = (heads_fit test program parts.body all_told program.head.inner (of_pattern program ++ stored) 1 told told_inner all_bound).fit
-      (first_run (names_for program store item place)) first in
+      }
+
+  pub told_first : AreTold kinds (of_pattern program ++ stored)
+  told_first = all_both (IsTold kinds) (of_pattern program) stored told_pattern told_stored
+
+  pub step_fits : (store : Bindings) (item : Value) (place : ℕ) (x : ValueKind) → item_kind program.head.product program.head.axes ≡ Some x → fits x item ≡ true →
+      1 ≤ place → place ≤ most_items → AreBound store stored → StepFits test stored (body_step program store item place)
+  step_fits store item place x is fit least most h =
+      let done = (heads_fit test program parts.body all_told program.head.inner (of_pattern program ++ stored) 1 told_first told_inner all_bound).fit
+      (first_run (names_for program store item place)) (first_stands store item place x is fit least most h) in
       let after : Bindings = (inner_runs program program.head.inner 1 (first_run (names_for program store item place))).names in
       record {
         emitted = done.emitted;
@@ -164,7 +171,7 @@ module _ (test : Test) (program : ProgramTree) (parts : PartsFit test program) w
       (run_fits x is (body_step program store item place).store items (place + 1) both.1 later rest step.store)
 
 -- a head whose pattern takes its items has a kind of items
-kind_given : (ns : List (List ℕ)) (o : Option ValueKind) → pattern_takes ns o ≡ true → (x : ValueKind) × (o ≡ Some x)
+pub kind_given : (ns : List (List ℕ)) (o : Option ValueKind) → pattern_takes ns o ≡ true → (x : ValueKind) × (o ≡ Some x)
 kind_given ns (Some x) takes = (x, refl)
 kind_given ns None takes = absurd (cc)
 
@@ -176,3 +183,38 @@ runs_fit test program table entries most =
     let kind = kind_given program.head.names (item_kind program.head.product program.head.axes) parts.takes in
     run_fits test program parts kind.0 kind.1 (start_store program) (items_of program table) 1 (items_fit program.head (sources_of program table) kind.0 kind.1)
     (omega arith) (omega arith) (start_fits test program parts)
+
+-- ---- stretches
+
+pub all_taken : (p : Value → Bool) (n : ℕ) (xs : List Value) → list_all p xs ≡ true → list_all p (take n xs) ≡ true
+all_taken p zero xs h = refl
+all_taken p (suc n) [] h = refl
+all_taken p (suc n) (x ∷ xs) h =
+    let both = and_parts (p x) (list_all p xs) h in
+    and_from (p x) (list_all p (take n xs)) both.0 (all_taken p n xs both.1)
+
+pub all_left : (p : Value → Bool) (n : ℕ) (xs : List Value) → list_all p xs ≡ true → list_all p (drop n xs) ≡ true
+all_left p zero xs h = h
+all_left p (suc n) [] h = refl
+all_left p (suc n) (x ∷ xs) h = all_left p n xs (and_parts (p x) (list_all p xs) h).1
+
+module _ (test : Test) (program : ProgramTree) (parts : PartsFit test program) where
+  -- where there is no item the place doesn't matter
+  from_any_place : (x : ValueKind) → item_kind program.head.product program.head.axes ≡ Some x → (items : List Value) (place : ℕ) → list_all (fits x) items ≡ true →
+      1 ≤ place → (1 ≤ length items → place + length items ≤ most_items + 1) → list_all test (loop_run program (start_store program) items place).emitted ≡ true
+  from_any_place x is [] place fit least most = refl
+  from_any_place x is (item ∷ items) place fit least most =
+      let some : 1 ≤ length (item ∷ items) = omega arith in
+      run_fits test program parts x is (start_store program) (item ∷ items) place fit least (most some) (start_fits test program parts)
+
+-- what a loop whose entries fit emits over a stretch of its items, from the start, passes the test
+pub stretches_fit : (test : Test) (program : ProgramTree) (table : Contents) → AllByRecursion (EntryFits test) (entries_of program) → length (items_of program table) ≤ most_items →
+    (first count : ℕ) → 1 ≤ first → list_all test (loop_run program (start_store program) (take count (drop (first - 1) (items_of program table))) first).emitted ≡ true
+stretches_fit test program table entries most first count low =
+    let parts = parts_fit test program entries in
+    let kind = kind_given program.head.names (item_kind program.head.product program.head.axes) parts.takes in
+    let items = items_of program table in
+    let all = items_fit program.head (sources_of program table) kind.0 kind.1 in
+    from_any_place test program parts kind.0 kind.1 (take count (drop (first - 1) items)) first
+    (all_taken (fits kind.0) count (drop (first - 1) items) (all_left (fits kind.0) (first - 1) items all)) low
+    (λ some. omega (arith, some, low, most, length-take count (drop (first - 1) items), length-drop (first - 1) items))

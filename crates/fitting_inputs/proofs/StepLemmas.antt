@@ -38,14 +38,18 @@ pub record StandsFit (test : Test) (some : Scope) (run : BodyRun) : Type 0 where
 pub record KeepsFit (test : Test) (some : Scope) (action : Action) : Type 0 where
   pub fit : (run : BodyRun) → StandsFit test some run → StandsFit test some (action run)
 
+-- an action that is done only where the body run goes on
+pub while_stands : (test : Test) (some : Scope) (action : Action) → KeepsFit test some action → (run : BodyRun) → StandsFit test some run → StandsFit test some (while_going action run)
+while_stands test some action keeps run s = at (is_going run.flow)
+  where
+    at : (b : Bool) → StandsFit test some (if b then action run else run)
+    at true = keeps.fit run s
+    at false = s
+
 -- actions one after another
 each_fits : {X : Type 0} (test : Test) (some : Scope) (one : X → Action) → ((x : X) → KeepsFit test some (one x)) → (xs : List X) → KeepsFit test some (in_turn (map one xs))
 each_fits test some one h [] = record { fit = λ run s. s }
-each_fits test some one h (x ∷ xs) = record { fit = λ run s. (each_fits test some one h xs).fit (while_going (one x) run) (first run s (is_going run.flow)) }
-  where
-    first : (run : BodyRun) → StandsFit test some run → (b : Bool) → StandsFit test some (if b then one x run else run)
-    first run s true = (h x).fit run s
-    first run s false = s
+each_fits test some one h (x ∷ xs) = record { fit = λ run s. (each_fits test some one h xs).fit (while_going (one x) run) (while_stands test some (one x) (h x) run s) }
 
 -- what is done with the items of a range; a fault in the range leaves the names as they are
 with_items_fit : (test : Test) (some : Scope) (line : ℕ) (o : Result (List ℤ) EvalStop) (next : List ℤ → Action) → ((items : List ℤ) → KeepsFit test some (next items)) →
@@ -75,17 +79,21 @@ module _ (test : Test) (program : ProgramTree) (lines : AllByRecursion (EntryFit
         record { bound = fit_bound kinds (block_run program.body run).names scope told after.around; placed = after.placed; emitted = after.emitted };
   }
 
-  -- an item of an inner head binds one name more for the body runs under it, and leaves the names of the store
-  item_fits : (some : Scope) (i : Inner) (action : Action) → AreTold kinds some → IsTold kinds (inner_known i) → KeepsFit test (inner_known i ∷ some) action → (item : ℤ) →
+  -- an item of an inner head binds one name more for the body runs under it
+  pub item_stands : (some : Scope) (i : Inner) → AreTold kinds some → IsTold kinds (inner_known i) → (item : ℤ) (run : BodyRun) → StandsFit test some run →
+      StandsFit test (inner_known i ∷ some) (naming i.name (Int item) run)
+  item_stands some i others here item run s = record {
+    bound = one_bound kinds run.names (inner_known i) (Int item) some here (int_fits (inner_known i) item refl) others s.bound;
+    placed = placed_still run.names i.name (Int item) here.apart s.placed;
+    emitted = s.emitted;
+  }
+
+  -- and leaves the names of the store
+  pub item_fits : (some : Scope) (i : Inner) (action : Action) → AreTold kinds some → IsTold kinds (inner_known i) → KeepsFit test (inner_known i ∷ some) action → (item : ℤ) →
       KeepsFit test some (for_item program i.name action item)
   item_fits some i action others here under item = record {
     fit = λ run s.
-        let now : StandsFit test (inner_known i ∷ some) (naming i.name (Int item) run) = record {
-          bound = one_bound kinds run.names (inner_known i) (Int item) some here (int_fits (inner_known i) item refl) others s.bound;
-          placed = placed_still run.names i.name (Int item) here.apart s.placed;
-          emitted = s.emitted;
-        } in
-        let done = under.fit (naming i.name (Int item) run) now in
+        let done = under.fit (naming i.name (Int item) run) (item_stands some i others here item run s) in
         record {
           bound = keeping_bound (stored_names program) run.names (action (naming i.name (Int item) run)).names some s.bound done.bound.1;
           placed = keeping_placed (stored_names program) run.names (action (naming i.name (Int item) run)).names s.placed done.placed;

@@ -14,7 +14,8 @@ use Rattle.loop_values.specs.Kinds.{AreWellFormed, is_bool, is_maybe, kind_of}
 use Rattle.tower_inputs.specs.Inputs.{input_of}
 use Rattle.tower_inputs.specs.Laws.{HasPlace}
 use Rattle.legality_rules.specs.Scopes.{Scope, fits_pattern, is_known, item_kind, kinds_in}
-use Rattle.legality_rules.specs.Lines.{Entry, Form, condition, first_head, init_line, inner_head, keep_line, let_line, reduce_line, set_line, var_line}
+use Rattle.legality_rules.specs.Lines.{Entry, Form, condition, first_head, init_line, inner_head, keep_line, let_line}
+use Rattle.legality_rules.specs.Lines.{reduce_line, set_line, var_line}
 use Rattle.legality_rules.specs.Rules.{is_of, items_fit, passes, repeated}
 use Rattle.loop_meaning.specs.declared.steps.BodyRun.{BodyRun}
 use Rattle.loop_meaning.specs.declared.steps.Pair.{Pair}
@@ -24,6 +25,7 @@ use Rattle.loop_meaning.specs.declared.steps.Flow.TheVariants.{Going}
 abbrev pub Test : Type 0
 Test = Pair → Bool
 
+-- an emitted pair: an input, for the reducer of that name
 abbrev pub pair : List ℕ → Value → Pair
 pair name input = record { name = name; input = input }
 
@@ -54,8 +56,8 @@ kind_passes scope test x = passes test (kind_of x (kinds_in scope))
 
 -- whatever the names in scope are bound to, if their values fit their kinds, the input passes the test
 abbrev pub InputsPass : Test → Scope → List ℕ → TowerExpr → Type 0
-InputsPass test scope name tower = (env : Names) (input : Value) → Agree (kinds_in scope) env → HasPlace env → input_of tower env ≡ Ok input →
-    test (pair name input) ≡ true
+InputsPass test scope name tower = (env : Names) (input : Value) →
+    Agree (kinds_in scope) env → HasPlace env → input_of tower env ≡ Ok input → test (pair name input) ≡ true
 
 -- what a line says fits the names in scope, and what it emits passes the test
 abbrev pub FormFits : Test → Scope → Form → Type 0

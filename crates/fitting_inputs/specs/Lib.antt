@@ -1,3 +1,4 @@
+pub mod Evaluated
 pub mod Fitting
 pub mod Laws
 pub mod ReduceLines

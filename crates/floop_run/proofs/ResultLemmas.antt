@@ -12,9 +12,10 @@ use Rattle.reducer_tower.specs.declared.row.RowStop.{RowStop}
 use Rattle.reducer_tower.specs.declared.row.RowStop.TheVariants.{NoSuchName}
 use Rattle.reducer_tower.specs.Rows.{RowStands, IsTextOf, number_of, starts_of}
 use Rattle.fitting_inputs.specs.ReduceLines.{reducer_kind}
-use Rattle.plain_path.specs.Rows.{row_of, numbered}
-use Rattle.plain_path.proofs.InputLemmas.{inputs_in_row}
-use Rattle.plain_path.proofs.RowLemmas.{first_lines_kept, others_have_none, tower_at}
+use Rattle.program_rows.specs.Pairs.{numbered}
+use Rattle.program_rows.specs.Rows.{row_of}
+use Rattle.program_rows.proofs.InputLemmas.{inputs_in_row}
+use Rattle.program_rows.proofs.RowLemmas.{first_lines_kept, others_have_none, tower_at}
 use Rattle.floop_run.specs.Results.{text_of}
 
 -- whichever inputs the states of the program's row stand for, what a row's text says is the text of the program's reducer

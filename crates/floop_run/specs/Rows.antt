@@ -7,7 +7,8 @@ use Rattle.reducer_tower.specs.declared.row.Row.{Row}
 use Rattle.reducer_tower.specs.declared.row.RowState.{RowState}
 use Rattle.reducer_tower.specs.declared.row.Emitted.{Emitted as Input}
 use Rattle.reducer_tower.specs.Rows.{RowStands, starts_of}
-use Rattle.plain_path.specs.Rows.{row_of, numbered}
+use Rattle.program_rows.specs.Pairs.{numbered}
+use Rattle.program_rows.specs.Rows.{row_of}
 
 -- the states stand for these inputs
 abbrev pub StandFor : Row → RowState → List Input → Type 0

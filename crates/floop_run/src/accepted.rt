@@ -11,7 +11,7 @@ use crate::answer::{Output, one_line};
 use edge_io::NoMemory;
 use legality_check::LegalProgram;
 use loop_items::HeadItems;
-use plain_path::row_of;
+use program_rows::row_of;
 use std::alloc::Global;
 
 /// The line of a loop that is accepted: how many items it has, and how many reducers, by their names.

@@ -19,7 +19,8 @@ use legality_check::LegalProgram;
 use loop_data::PrintLine;
 use loop_items::HeadItems;
 use loop_syntax::Program;
-use plain_path::{PathEnd, fold_plain, row_of};
+use plain_path::{PathEnd, fold_plain};
+use program_rows::row_of;
 use reducer_tower::{Row, RowState, RowStop};
 use std::alloc::{AllocError, Global};
 

@@ -23,9 +23,9 @@ use Rattle.plain_path.specs.declared.fold.Walked.{Walked}
 use Rattle.no_memory.specs.declared.NoMemory.{NoMemory}
 use Rattle.plain_path.specs.declared.fold.PathEnd.{PathEnd}
 use Rattle.plain_path.specs.Paths.{HasNoFault, IsEnd, run_over}
-use Rattle.plain_path.specs.Rows.{numbered, pairs_fit}
-use Rattle.plain_path.specs.Walked.{HaveRoom, StandsFor, TakeBehind, item_run}
-use Rattle.plain_path.proofs.PairLemmas.{fit_parts, numbered-append, numbered_few}
+use Rattle.plain_path.specs.Walked.{StandsFor, item_run}
+use Rattle.program_rows.specs.Pairs.{HaveRoom, TakeBehind, numbered, pairs_fit}
+use Rattle.program_rows.proofs.PairLemmas.{fit_parts, numbered-append, numbered_few}
 
 -- ---- one step
 

@@ -19,9 +19,10 @@ use Rattle.fitting_inputs.specs.ReduceLines.{ReduceLine, fits_reducer, reduce_li
 use Rattle.fitting_inputs.proofs.LegalRuns.{legal_runs_fit}
 use Rattle.fitting_inputs.proofs.ReducerFacts.{reduce_lines_are_few}
 use Rattle.fitting_inputs.proofs.SiteLemmas.{lines_are_sites}
+use Rattle.program_rows.specs.Pairs.{pairs_fit}
+use Rattle.program_rows.specs.Rows.{row_of}
+use Rattle.program_rows.proofs.FitLemmas.{fitting_pairs_fit}
 use Rattle.plain_path.specs.Paths.{AreHeadItems, run_over}
-use Rattle.plain_path.specs.Rows.{pairs_fit, row_of}
-use Rattle.plain_path.proofs.FitLemmas.{fitting_pairs_fit}
 
 spelled_pairs_fit : (text : List ℕ) (program : ProgramTree) (items : List Value) → SpellsProgram text program → IsLegal program →
     AreHeadItems program items → length items ≤ 4294967296 → pairs_fit (row_of program) (run_over program items).emitted ≡ true

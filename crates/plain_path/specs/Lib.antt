@@ -1,4 +1,2 @@
-pub mod Laws
 pub mod Paths
-pub mod Rows
 pub mod Walked

@@ -13,9 +13,9 @@ use Rattle.loop_meaning.specs.Stores.{start_store}
 use Rattle.reducer_tower.specs.declared.named.Named.{Named}
 use Rattle.reducer_tower.specs.declared.row.RowState.{RowState}
 use Rattle.reducer_tower.specs.Rows.{RowStands, starts_of}
+use Rattle.program_rows.specs.Pairs.{numbered}
 use Rattle.plain_path.specs.declared.fold.PathEnd.{PathEnd}
 use Rattle.plain_path.specs.declared.fold.PathEnd.TheVariants as path
-use Rattle.plain_path.specs.Rows.{numbered}
 
 -- these are the items of the program's first head over some table
 pub record AreHeadItems (program : ProgramTree) (items : List Value) : Type 0 where

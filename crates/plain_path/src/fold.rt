@@ -5,11 +5,11 @@ ghost use Rattle.loop_grammar.specs.SkippedFaults.{skips_faults};
 ghost use Rattle.loop_meaning.specs.declared.runs.Run.{Run};
 ghost use Rattle.loop_meaning.specs.Runs.{is_skipped, no_run, stop_at};
 ghost use Rattle.loop_meaning.specs.Stores.{start_store};
-ghost use Rattle.reducer_tower.specs.Rows.{number_of};
+ghost use Rattle.program_rows.specs.Pairs.{HaveRoom, TakeBehind, numbered, pairs_fit};
+ghost use Rattle.program_rows.specs.Rows.{row_of};
 ghost use Rattle.number_ranges.specs.Ranges.{most_items};
-ghost use Rattle.plain_path.specs.Rows.{row_of, pairs_fit, fits_number, input_for, numbered};
 ghost use Rattle.plain_path.specs.Paths.{AreHeadItems, HasNoFault, IsEnd, run_over};
-ghost use Rattle.plain_path.specs.Walked.{HaveRoom, StandsFor, TakeBehind, item_run};
+ghost use Rattle.plain_path.specs.Walked.{StandsFor, item_run};
 
 use legality_check::LegalProgram;
 use loop_data::{Many, Value};
@@ -18,8 +18,9 @@ use loop_meaning::{BodyEnd, Pair, start_store, step_plain};
 use loop_syntax::Program;
 use loop_values::Env;
 use no_memory::NoMemory;
+use program_rows::{add_pairs, drop_pairs};
 use reducer_laws::Reducer;
-use reducer_tower::{Emitted as Input, Row, RowState};
+use reducer_tower::{Row, RowState};
 use std::alloc::Global;
 
 /// How the plain loop ended.
@@ -41,57 +42,6 @@ struct Walked {
     emitted: Many<Pair>,
 }
 
-/// The states with one more pair, for the reducer of its name.
-fn add_pair(alloc: Global, row: &Row, state: &mut RowState, pair: Pair) -> Result<(), NoMemory>
-    requires fits { fits_number row.now.towers.items (number_of pair.name row.now.towers.items) pair.input ≡ true }
-    requires room { HaveRoom row.now.towers.items state.old 1 }
-    ensures { OnOk result (TakeBehind row.now.towers.items state.old state.new
-        (input_for (number_of pair.name row.now.towers.items) pair.input)) }
-{
-    let Pair { name, input } = pair;
-    match row.tower(name.as_str()) {
-        Some(tower) => row.next(
-            alloc,
-            state,
-            Input {
-                tower,
-                value: input,
-            },
-        ),
-        None => Ok(()),
-    }
-}
-
-/// The states with these pairs, each for the reducer of its name. The list is emptied, and keeps its memory.
-fn add_pairs(
-    alloc: Global,
-    row: &Row,
-    state: &mut RowState,
-    pairs: &mut Many<Pair>,
-) -> Result<(), NoMemory>
-    requires fit { pairs_fit row.now.towers.items pairs.old ≡ true }
-    requires room { HaveRoom row.now.towers.items state.old (length pairs.old) }
-    ensures states { OnOk result (TakeBehind row.now.towers.items state.old state.new
-        (numbered row.now.towers.items pairs.old)) }
-    ensures emptied { OnOk result (pairs.new ≡ []) }
-{
-    let mut list = std::mem::replace(pairs, Many::new(alloc)).into_vec();
-    for pair in list.drain(..) {
-        add_pair(alloc, row, state, pair)?;
-    }
-    *pairs = Many::from_vec(list);
-    Ok(())
-}
-
-/// Gives up these pairs. The list keeps its memory.
-fn drop_pairs(alloc: Global, pairs: &mut Many<Pair>)
-    ensures { pairs.new ≡ [] }
-{
-    let mut list = std::mem::replace(pairs, Many::new(alloc)).into_vec();
-    list.clear();
-    *pairs = Many::from_vec(list);
-}
-
 /// Whether the program skips the fault in which a step ended, if it ended so.
 fn is_skipped(program: &Program, end: BodyEnd) -> bool
     ensures { result ≡ is_skipped (skips_faults program.now) end }
@@ -111,8 +61,8 @@ fn begin(alloc: Global, program: &Program, row: &Row) -> Result<Walked, NoMemory
     })
 }
 
-/// One item more, at this place: what counts of what its step emits goes into the states. A step whose fault is skipped ends as one
-/// after which the next follows.
+/// One item more, at this place: what counts of what its step emits goes into the states. A step whose fault is skipped ends as
+/// one after which the next follows.
 fn walk_item(
     alloc: Global,
     program: &Program,
@@ -183,6 +133,7 @@ fn fold_items(
 {
     let mut walked = begun;
     for before in 0..count {
+        // It can't come: the walk has all the items that are counted.
         let Some(item) = walk.next(alloc)? else {
             return done(alloc, row, walked);
         };

@@ -24,7 +24,8 @@ StandsWhere stands None inputs = inputs ≡ []
 StandsWhere stands (Some state) inputs = (inputs ≢ []) × stands state inputs
 
 -- the keys rise, and each key that occurs, and no other, has a state, which stands for the inputs of that key
-pub record GroupsStand {S I : Type 0} (stands : S → List I → Type 0) (groups : List (List ℕ × S)) (inputs : List (List ℕ × I)) : Type 0 where
+pub record GroupsStand {S I : Type 0} (stands : S → List I → Type 0)
+    (groups : List (List ℕ × S)) (inputs : List (List ℕ × I)) : Type 0 where
   pub rising : KeysRise groups
   pub each : (k : List ℕ) → StandsWhere stands (state_at k groups) (inputs_under k inputs)
 
@@ -45,7 +46,8 @@ MayMergeInto stands (Some before) after = MayMerge stands before after
 abbrev pub TogetherWhere : {S I : Type 0} → (S → List I → Type 0) → Option S → Option S → Option S → Type 0
 TogetherWhere stands None after whole = whole ≡ after
 TogetherWhere stands (Some before) None whole = whole ≡ Some before
-TogetherWhere {S} stands (Some before) (Some after) whole = (state : S) × (whole ≡ Some state) × TakesTogether stands before after state
+TogetherWhere {S} stands (Some before) (Some after) whole =
+    (state : S) × (whole ≡ Some state) × TakesTogether stands before after state
 
 -- the whole has the groups of both sides, at each key the left's before the right's
 pub record GroupsTogether {S I : Type 0} (stands : S → List I → Type 0) (before after whole : List (List ℕ × S)) : Type 0 where

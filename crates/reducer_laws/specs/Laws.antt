@@ -35,12 +35,14 @@ StatesAreUnbeaten {T} beats = (state : Option T) (xs : List T) → IsFirstExtrem
 
 -- the smallest value is held with the least place where a value stands that is equal to it
 abbrev pub LeastIsHeldAtLeastPlace : {T : Type 0} → (T → T → Ordering) → Type 0
-LeastIsHeldAtLeastPlace {T} cmp = (state : Option (T × ℕ)) (xs : List (T × ℕ)) → IsFirstExtreme (is_smaller_at cmp nat_cmp) state xs →
+LeastIsHeldAtLeastPlace {T} cmp = (state : Option (T × ℕ)) (xs : List (T × ℕ)) →
+    IsFirstExtreme (is_smaller_at cmp nat_cmp) state xs →
     IsAtLeastPlace (is_smaller cmp) cmp (λ p q. p ≤ q) state xs
 
 -- the greatest value is held with the least place where a value stands that is equal to it
 abbrev pub GreatestIsHeldAtLeastPlace : {T : Type 0} → (T → T → Ordering) → Type 0
-GreatestIsHeldAtLeastPlace {T} cmp = (state : Option (T × ℕ)) (xs : List (T × ℕ)) → IsFirstExtreme (is_greater_at cmp nat_cmp) state xs →
+GreatestIsHeldAtLeastPlace {T} cmp = (state : Option (T × ℕ)) (xs : List (T × ℕ)) →
+    IsFirstExtreme (is_greater_at cmp nat_cmp) state xs →
     IsAtLeastPlace (is_greater cmp) cmp (λ p q. p ≤ q) state xs
 
 -- a value with its place, an integer of the loop language
@@ -49,12 +51,14 @@ at_int_place x = (x.0, pos x.1)
 
 -- the least with its place, as a tower's result says it, is what the state holds
 abbrev pub LeastStatesSayResults : {T : Type 0} → (T → T → Ordering) → Type 0
-LeastStatesSayResults {T} cmp = (state : Option (T × ℕ)) (xs : List (T × ℕ)) → IsFirstExtreme (is_smaller_at cmp nat_cmp) state xs →
+LeastStatesSayResults {T} cmp = (state : Option (T × ℕ)) (xs : List (T × ℕ)) →
+    IsFirstExtreme (is_smaller_at cmp nat_cmp) state xs →
     best_of (is_smaller_at cmp int_cmp) (map at_int_place xs) ≡ option_map at_int_place state
 
 -- and so is the greatest with its place
 abbrev pub GreatestStatesSayResults : {T : Type 0} → (T → T → Ordering) → Type 0
-GreatestStatesSayResults {T} cmp = (state : Option (T × ℕ)) (xs : List (T × ℕ)) → IsFirstExtreme (is_greater_at cmp nat_cmp) state xs →
+GreatestStatesSayResults {T} cmp = (state : Option (T × ℕ)) (xs : List (T × ℕ)) →
+    IsFirstExtreme (is_greater_at cmp nat_cmp) state xs →
     best_of (is_greater_at cmp int_cmp) (map at_int_place xs) ≡ option_map at_int_place state
 
 -- ---- sums and groups

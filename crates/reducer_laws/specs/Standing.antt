@@ -8,7 +8,8 @@ MayTake {S} {I} stands state = (xs : List I) × stands state xs × (length xs < 
 
 -- the states may be merged: they stand for some lists of at most 2^62 inputs together
 abbrev pub MayMerge : {S I : Type 0} → (S → List I → Type 0) → S → S → Type 0
-MayMerge {S} {I} stands left right = (xs : List I) × (ys : List I) × stands left xs × stands right ys × (length (xs ++ ys) ≤ 2 ^ 62)
+MayMerge {S} {I} stands left right =
+    (xs : List I) × (ys : List I) × stands left xs × stands right ys × (length (xs ++ ys) ≤ 2 ^ 62)
 
 -- whichever list the state stood for, it now stands for that list followed by the input
 abbrev pub TakesNext : {S I : Type 0} → (S → List I → Type 0) → S → I → S → Type 0

@@ -1,5 +1,6 @@
 mod CopyLemmas
 mod DisplayLemmas
+pub mod InputLemmas
 mod KindLemmas
 mod RowLemmas
 mod TextLemmas

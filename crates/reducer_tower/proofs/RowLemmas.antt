@@ -13,24 +13,8 @@ use Rattle.reducer_tower.specs.declared.row.Emitted.{Emitted}
 use Rattle.reducer_tower.specs.declared.named.Named.{Named}
 use Rattle.reducer_tower.specs.declared.state.TowerState.{TowerState}
 use Rattle.reducer_tower.specs.Stands.{Stands}
-use Rattle.reducer_tower.specs.Laws.{StartsComeFirst}
 use Rattle.reducer_tower.specs.Rows.{RowStands, StandWithStarts, inputs_of, start_fits, started_by, starts_from, starts_of}
-
--- ---- the inputs of a tower
-few : (i : ℕ) (xs : List Emitted) → length (inputs_of i xs) ≤ length xs
-few i [] = omega arith
-few i (x ∷ xs) = omega (arith, one (x.tower == i) x (filter (λ e. e.tower == i) xs) (length xs) (few i xs))
-  where
-    one : (b : Bool) (x : Emitted) (kept : List Emitted) (n : ℕ) → length (map (λ (e : Emitted). e.value) kept) ≤ n → length (map (λ (e : Emitted). e.value) (cond b (x ∷ kept) kept)) ≤ n + 1
-    one true x kept n h = omega arith
-    one false x kept n h = omega arith
-
-inputs_of-push : (i : ℕ) (xs : List Emitted) (x : Emitted) → inputs_of i (xs ++ x ∷ []) ≡ inputs_of i xs ++ inputs_of i (x ∷ [])
-inputs_of-push i xs x = ap (map (λ e. e.value)) (filter-append (λ e. e.tower == i) xs (x ∷ [])) ∙ map-append (λ e. e.value) (filter (λ e. e.tower == i) xs) (filter (λ e. e.tower == i) (x ∷ []))
-
-one_of : (i : ℕ) (x : Emitted) (b : Bool) → (x.tower == i) ≡ b → inputs_of i (x ∷ []) ≡ cond b (x.value ∷ []) []
-one_of i x true e = ap (λ b. map (λ (e : Emitted). e.value) (cond b (x ∷ []) [])) e
-one_of i x false e = ap (λ b. map (λ (e : Emitted). e.value) (cond b (x ∷ []) [])) e
+use Rattle.reducer_tower.proofs.InputLemmas.{few, inputs_of-append, one_of, starts_come_first}
 
 -- ---- a list with one item set
 set_here : {X : Type 0} (xs : List X) (i : ℕ) (w y : X) → slice_get (slice_set xs i w) i ≡ Some y → w ≡ y
@@ -45,9 +29,6 @@ set_there (x ∷ xs) zero (suc j) w ne = refl
 set_there (x ∷ xs) (suc i) zero w ne = refl
 set_there (x ∷ xs) (suc i) (suc j) w ne = set_there xs i j w (λ e. ne (ap suc e))
 
-same_number : (i j : ℕ) → (i == j) ≡ true → i ≡ j
-same_number = eqb-true
-
 pub held_once : {A : Type 0} (x y : A) (o : Option A) → o ≡ Some x → o ≡ Some y → x ≡ y
 held_once x y o e f = cc
 
@@ -60,7 +41,7 @@ module _ (towers : List Named) (states : List TowerState) where
     each_after : (xs : List Emitted) → RowStands towers states xs → (j : ℕ) (other : Named) (now : TowerState) → slice_get towers j ≡ Some other → slice_get (slice_set states x.tower after) j ≡ Some now
         → (same : Bool) → (x.tower == j) ≡ same → Stands other.tower.kind now (inputs_of j xs ++ cond same (x.value ∷ []) [])
     each_after xs h j other now c d true e =
-        let here : x.tower ≡ j = same_number x.tower j e in
+        let here : x.tower ≡ j = eqb-true x.tower j e in
         let tower = held_once named other (slice_get towers x.tower) a (subst (λ k. slice_get towers k ≡ Some other) (sym here) c) in
         let put = set_here states x.tower after now (subst (λ k. slice_get (slice_set states x.tower after) k ≡ Some now) (sym here) d) in
         let stood = t (inputs_of x.tower xs) (h.each x.tower named state a b) in
@@ -74,7 +55,7 @@ module _ (towers : List Named) (states : List TowerState) where
     row_next = λ xs h. record {
       as_many = length-set states x.tower after ∙ h.as_many;
       each = λ j other now c d.
-          subst (λ ys. Stands other.tower.kind now ys) (sym (inputs_of-push j xs x ∙ ap (λ ys. inputs_of j xs ++ ys) (one_of j x (x.tower == j) refl)))
+          subst (λ ys. Stands other.tower.kind now ys) (sym (inputs_of-append j xs (x ∷ []) ∙ ap (λ ys. inputs_of j xs ++ ys) (one_of j x (x.tower == j) refl)))
           (each_after xs h j other now c d (x.tower == j) refl);
     }
 
@@ -197,9 +178,6 @@ not_over towers left right lefts rights whole done xs m lt none g = omega (arith
 pub not_over_right : (towers : List Named) (left right lefts rights whole : List TowerState) (done : ℕ) (xs : List Emitted) → MergedSoFar towers left right lefts rights whole done → done < length towers → length rights ≡ 0 → RowStands towers right xs → ⊥
 not_over_right towers left right lefts rights whole done xs m lt none g = omega (arith, ap length m.right_is, length-append m.rs rights, m.right_long, none, lt, g.as_many)
 
-inputs_of-append : (i : ℕ) (xs ys : List Emitted) → inputs_of i (xs ++ ys) ≡ inputs_of i xs ++ inputs_of i ys
-inputs_of-append i xs ys = ap (map (λ e. e.value)) (filter-append (λ e. e.tower == i) xs ys) ∙ map-append (λ e. e.value) (filter (λ e. e.tower == i) xs) (filter (λ e. e.tower == i) ys)
-
 pub merged_all : (towers : List Named) (left right lefts rights whole : List TowerState) (done : ℕ) → MergedSoFar towers left right lefts rights whole done → done ≡ length towers → TakesTogether (RowStands towers) left right whole
 merged_all towers left right lefts rights whole done m all = λ xs ys g h. record {
   as_many = m.long ∙ all;
@@ -219,47 +197,6 @@ nothing_left zero long e h = sym e
 nothing_left (suc n) long e h = absurd (true≢false (sym (h (omega arith))))
 
 -- ---- start values
-abbrev from_start : ℕ → Value → Emitted
-from_start k start = record { tower = k; value = start }
-
-start_here : (i k : ℕ) (o : Option Value) → (k == i) ≡ true → inputs_of i (map (from_start k) (started_by o)) ≡ started_by o
-start_here i k None e = refl
-start_here i k (Some x) e = one_of i (from_start k x) true e
-
-start_there : (i k : ℕ) (o : Option Value) → (k == i) ≡ false → inputs_of i (map (from_start k) (started_by o)) ≡ []
-start_there i k None e = refl
-start_there i k (Some x) e = one_of i (from_start k x) false e
-
-apart : (k i : ℕ) (b : Bool) → (k == i) ≡ b → (k ≡ i → ⊥) → b ≡ false
-apart k i true e ne = absurd (ne (same_number k i e))
-apart k i false e ne = refl
-
--- the towers from k on have no start value before k
-none_before : (i k : ℕ) (towers : List Named) → i < k → inputs_of i (starts_from k towers) ≡ []
-none_before i k [] lt = refl
-none_before i k (n ∷ ts) lt =
-    inputs_of-append i (map (from_start k) (started_by n.start)) (starts_from (suc k) ts)
-    ∙ ap (λ l. l ++ inputs_of i (starts_from (suc k) ts)) (start_there i k n.start (apart k i (k == i) refl (λ e. omega (arith, e))))
-    ∙ none_before i (suc k) ts (omega arith)
-
-start_at : (towers : List Named) (i k j : ℕ) (named : Named) → i ≡ k + j → slice_get towers j ≡ Some named → inputs_of i (starts_from k towers) ≡ started_by named.start
-start_at [] i k j named e at = cc
-start_at (n ∷ ts) i k zero named e at =
-    let here : n ≡ named = cc in
-    let same : k ≡ i = omega (arith, e) in
-    inputs_of-append i (map (from_start k) (started_by n.start)) (starts_from (suc k) ts)
-    ∙ ap (λ l. l ++ inputs_of i (starts_from (suc k) ts)) (start_here i k n.start (eq-eqb k i same))
-    ∙ ap (λ l. started_by n.start ++ l) (none_before i (suc k) ts (omega arith))
-    ∙ append-nil (started_by n.start)
-    ∙ ap (λ (z : Named). started_by z.start) here
-start_at (n ∷ ts) i k (suc j) named e at =
-    inputs_of-append i (map (from_start k) (started_by n.start)) (starts_from (suc k) ts)
-    ∙ ap (λ l. l ++ inputs_of i (starts_from (suc k) ts)) (start_there i k n.start (apart k i (k == i) refl (λ f. omega (arith, e, f))))
-    ∙ start_at ts i (suc k) j named (omega (arith, e)) at
-
-pub starts_come_first : StartsComeFirst
-starts_come_first towers i named inputs at =
-    inputs_of-append i (starts_of towers) inputs ∙ ap (λ l. l ++ inputs_of i inputs) (start_at towers i 0 i named (omega arith) at)
 
 -- the state with the start value of its tower before its inputs
 abbrev pub Starts : Named → TowerState → TowerState → Type 0

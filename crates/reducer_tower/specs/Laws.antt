@@ -13,7 +13,8 @@ use Rattle.reducer_tower.specs.Texts.{state_text}
 
 -- whichever list a state stands for, its text is the result text of that list
 abbrev pub SaysTheResult : Type 0
-SaysTheResult = (kind : Kind) (state : TowerState) (inputs : List Value) → Stands kind state inputs → state_text state ≡ result_text kind inputs
+SaysTheResult = (kind : Kind) (state : TowerState) (inputs : List Value) →
+    Stands kind state inputs → state_text state ≡ result_text kind inputs
 
 -- behind the start values of a row, the inputs of each tower are its start value, where it has one, and then its own
 abbrev pub StartsComeFirst : Type 0

@@ -9,7 +9,7 @@ ghost use Rattle.reducer_tower.specs.Inputs.{at_place, is_keyed};
 use loop_data::{TextValue, Value};
 
 /// The two parts of a pair, moved out.
-pub fn parts_of_pair(input: Value) -> Option<(Value, Value)>
+pub(crate) fn parts_of_pair(input: Value) -> Option<(Value, Value)>
     ensures { is_pair input ≡ true → result ≡ Some (left_of input, right_of input) }
 {
     let Value::Tuple(parts) = input else {
@@ -22,7 +22,7 @@ pub fn parts_of_pair(input: Value) -> Option<(Value, Value)>
 }
 
 /// The key and the inner input of a pair of them, moved out.
-pub fn key_and_input(input: Value) -> Option<(TextValue, Value)>
+pub(crate) fn key_and_input(input: Value) -> Option<(TextValue, Value)>
     ensures { is_keyed input ≡ true → result ≡ Some (input_at_key input) }
 {
     let (key, inner) = parts_of_pair(input)?;
@@ -33,7 +33,7 @@ pub fn key_and_input(input: Value) -> Option<(TextValue, Value)>
 }
 
 /// The value and the place of a pair of them, moved out.
-pub fn value_and_place(input: Value) -> Option<(Value, u64)>
+pub(crate) fn value_and_place(input: Value) -> Option<(Value, u64)>
     ensures { is_pair input ≡ true → result ≡ Some (at_place input) }
 {
     let (value, place) = parts_of_pair(input)?;

@@ -15,13 +15,13 @@ use no_memory::NoMemory;
 use reducer_laws::{Count, Listed, Prod, Reducer, Sum};
 use std::alloc::Global;
 
-pub fn sum_unit(alloc: Global) -> Result<TowerState, NoMemory>
+pub(crate) fn sum_unit(alloc: Global) -> Result<TowerState, NoMemory>
     ensures { IfOk result (λ state. SumStands state []) }
 {
     Ok(TowerState::Sum(Sum::new().unit(alloc)?))
 }
 
-pub fn sum_next(alloc: Global, state: &mut TowerState, input: Value) -> Result<(), NoMemory>
+pub(crate) fn sum_next(alloc: Global, state: &mut TowerState, input: Value) -> Result<(), NoMemory>
     requires { MayTake SumStands state.old }
     ensures { OnOk result (TakesNext SumStands state.old input state.new) }
 {
@@ -31,7 +31,11 @@ pub fn sum_next(alloc: Global, state: &mut TowerState, input: Value) -> Result<(
     }
 }
 
-pub fn sum_merge(alloc: Global, left: TowerState, right: TowerState) -> Result<TowerState, NoMemory>
+pub(crate) fn sum_merge(
+    alloc: Global,
+    left: TowerState,
+    right: TowerState,
+) -> Result<TowerState, NoMemory>
     requires { MayMerge SumStands left right }
     ensures { IfOk result (TakesTogether SumStands left right) }
 {
@@ -44,13 +48,13 @@ pub fn sum_merge(alloc: Global, left: TowerState, right: TowerState) -> Result<T
     }
 }
 
-pub fn prod_unit(alloc: Global) -> Result<TowerState, NoMemory>
+pub(crate) fn prod_unit(alloc: Global) -> Result<TowerState, NoMemory>
     ensures { IfOk result (λ state. ProdStands state []) }
 {
     Ok(TowerState::Prod(Prod::new().unit(alloc)?))
 }
 
-pub fn prod_next(alloc: Global, state: &mut TowerState, input: Value) -> Result<(), NoMemory>
+pub(crate) fn prod_next(alloc: Global, state: &mut TowerState, input: Value) -> Result<(), NoMemory>
     requires { MayTake ProdStands state.old }
     ensures { OnOk result (TakesNext ProdStands state.old input state.new) }
 {
@@ -60,7 +64,7 @@ pub fn prod_next(alloc: Global, state: &mut TowerState, input: Value) -> Result<
     }
 }
 
-pub fn prod_merge(
+pub(crate) fn prod_merge(
     alloc: Global,
     left: TowerState,
     right: TowerState,
@@ -79,13 +83,17 @@ pub fn prod_merge(
     }
 }
 
-pub fn count_unit(alloc: Global) -> Result<TowerState, NoMemory>
+pub(crate) fn count_unit(alloc: Global) -> Result<TowerState, NoMemory>
     ensures { IfOk result (λ state. CountStands state []) }
 {
     Ok(TowerState::Count(Count::new().unit(alloc)?))
 }
 
-pub fn count_next(alloc: Global, state: &mut TowerState, input: Value) -> Result<(), NoMemory>
+pub(crate) fn count_next(
+    alloc: Global,
+    state: &mut TowerState,
+    input: Value,
+) -> Result<(), NoMemory>
     requires { MayTake CountStands state.old }
     ensures { OnOk result (TakesNext CountStands state.old input state.new) }
 {
@@ -96,7 +104,7 @@ pub fn count_next(alloc: Global, state: &mut TowerState, input: Value) -> Result
     }
 }
 
-pub fn count_merge(
+pub(crate) fn count_merge(
     alloc: Global,
     left: TowerState,
     right: TowerState,
@@ -115,13 +123,13 @@ pub fn count_merge(
     }
 }
 
-pub fn list_unit(alloc: Global) -> Result<TowerState, NoMemory>
+pub(crate) fn list_unit(alloc: Global) -> Result<TowerState, NoMemory>
     ensures { IfOk result (λ state. ListStands state []) }
 {
     Ok(TowerState::Listed(Listed::<Value>::new().unit(alloc)?))
 }
 
-pub fn list_next(alloc: Global, state: &mut TowerState, input: Value) -> Result<(), NoMemory>
+pub(crate) fn list_next(alloc: Global, state: &mut TowerState, input: Value) -> Result<(), NoMemory>
     requires { MayTake ListStands state.old }
     ensures { OnOk result (TakesNext ListStands state.old input state.new) }
 {
@@ -131,7 +139,7 @@ pub fn list_next(alloc: Global, state: &mut TowerState, input: Value) -> Result<
     }
 }
 
-pub fn list_merge(
+pub(crate) fn list_merge(
     alloc: Global,
     left: TowerState,
     right: TowerState,
@@ -152,7 +160,7 @@ pub fn list_merge(
 
 // ---- `any` and `all`, by the reducer that is passed
 
-pub fn truth_unit<R: Reducer<Input = bool, State = bool>>(
+pub(crate) fn truth_unit<R: Reducer<Input = bool, State = bool>>(
     alloc: Global,
     by: &R,
 ) -> Result<TowerState, NoMemory>
@@ -161,7 +169,7 @@ pub fn truth_unit<R: Reducer<Input = bool, State = bool>>(
     Ok(TowerState::Truth(by.unit(alloc)?))
 }
 
-pub fn truth_next<R: Reducer<Input = bool, State = bool>>(
+pub(crate) fn truth_next<R: Reducer<Input = bool, State = bool>>(
     alloc: Global,
     by: &R,
     state: &mut TowerState,
@@ -177,7 +185,7 @@ pub fn truth_next<R: Reducer<Input = bool, State = bool>>(
     }
 }
 
-pub fn truth_merge<R: Reducer<Input = bool, State = bool>>(
+pub(crate) fn truth_merge<R: Reducer<Input = bool, State = bool>>(
     alloc: Global,
     by: &R,
     left: TowerState,
@@ -197,7 +205,7 @@ pub fn truth_merge<R: Reducer<Input = bool, State = bool>>(
 
 // ---- `min`, `max`, `first` and `last`, by the reducer that is passed
 
-pub fn found_unit<R: Reducer<Input = Value, State = Option<Value>>>(
+pub(crate) fn found_unit<R: Reducer<Input = Value, State = Option<Value>>>(
     alloc: Global,
     by: &R,
 ) -> Result<TowerState, NoMemory>
@@ -206,7 +214,7 @@ pub fn found_unit<R: Reducer<Input = Value, State = Option<Value>>>(
     Ok(TowerState::Found(by.unit(alloc)?))
 }
 
-pub fn found_next<R: Reducer<Input = Value, State = Option<Value>>>(
+pub(crate) fn found_next<R: Reducer<Input = Value, State = Option<Value>>>(
     alloc: Global,
     by: &R,
     state: &mut TowerState,
@@ -222,7 +230,7 @@ pub fn found_next<R: Reducer<Input = Value, State = Option<Value>>>(
     }
 }
 
-pub fn found_merge<R: Reducer<Input = Value, State = Option<Value>>>(
+pub(crate) fn found_merge<R: Reducer<Input = Value, State = Option<Value>>>(
     alloc: Global,
     by: &R,
     left: TowerState,
@@ -242,7 +250,7 @@ pub fn found_merge<R: Reducer<Input = Value, State = Option<Value>>>(
 
 // ---- `argmin` and `argmax`, by the reducer that is passed
 
-pub fn placed_unit<R: Reducer<Input = (Value, u64), State = Option<(Value, u64)>>>(
+pub(crate) fn placed_unit<R: Reducer<Input = (Value, u64), State = Option<(Value, u64)>>>(
     alloc: Global,
     by: &R,
 ) -> Result<TowerState, NoMemory>
@@ -251,7 +259,7 @@ pub fn placed_unit<R: Reducer<Input = (Value, u64), State = Option<(Value, u64)>
     Ok(TowerState::FoundAt(by.unit(alloc)?))
 }
 
-pub fn placed_next<R: Reducer<Input = (Value, u64), State = Option<(Value, u64)>>>(
+pub(crate) fn placed_next<R: Reducer<Input = (Value, u64), State = Option<(Value, u64)>>>(
     alloc: Global,
     by: &R,
     state: &mut TowerState,
@@ -271,7 +279,7 @@ pub fn placed_next<R: Reducer<Input = (Value, u64), State = Option<(Value, u64)>
     }
 }
 
-pub fn placed_merge<R: Reducer<Input = (Value, u64), State = Option<(Value, u64)>>>(
+pub(crate) fn placed_merge<R: Reducer<Input = (Value, u64), State = Option<(Value, u64)>>>(
     alloc: Global,
     by: &R,
     left: TowerState,

@@ -82,7 +82,7 @@ impl<'a, N: Nested> Reducer for By<'a, N> {
     }
 }
 
-pub fn grouped_unit<N: Nested>(alloc: Global, inner: &N) -> Result<TowerState, NoMemory>
+pub(crate) fn grouped_unit<N: Nested>(alloc: Global, inner: &N) -> Result<TowerState, NoMemory>
     ensures { IfOk result (λ state. GroupedStand (N.stands inner.now) state []) }
 {
     let _ = inner;
@@ -91,7 +91,7 @@ pub fn grouped_unit<N: Nested>(alloc: Global, inner: &N) -> Result<TowerState, N
 
 /// Takes an input by its key. Where the key is there, its state takes the inner input in its place: key and inner input are
 /// moved, and no memory is taken but the inner reducer's.
-pub fn grouped_next<N: Nested>(
+pub(crate) fn grouped_next<N: Nested>(
     alloc: Global,
     inner: &N,
     state: &mut TowerState,
@@ -112,7 +112,7 @@ pub fn grouped_next<N: Nested>(
 }
 
 /// Puts two states together. The states of keys are moved; an empty left is answered by the right, and no unit is made.
-pub fn grouped_merge<N: Nested>(
+pub(crate) fn grouped_merge<N: Nested>(
     alloc: Global,
     inner: &N,
     left: TowerState,
@@ -132,7 +132,11 @@ pub fn grouped_merge<N: Nested>(
     }
 }
 
-pub fn both_unit<N: Nested>(alloc: Global, left: &N, right: &N) -> Result<TowerState, NoMemory>
+pub(crate) fn both_unit<N: Nested>(
+    alloc: Global,
+    left: &N,
+    right: &N,
+) -> Result<TowerState, NoMemory>
     ensures { IfOk result (λ state. BothStand (N.stands left.now) (N.stands right.now) state []) }
 {
     let left = Boxed::new(alloc, left.unit(alloc)?)?;
@@ -140,7 +144,7 @@ pub fn both_unit<N: Nested>(alloc: Global, left: &N, right: &N) -> Result<TowerS
     Ok(TowerState::Both(left, right))
 }
 
-pub fn both_next<N: Nested>(
+pub(crate) fn both_next<N: Nested>(
     alloc: Global,
     left: &N,
     right: &N,
@@ -166,7 +170,7 @@ pub fn both_next<N: Nested>(
     }
 }
 
-pub fn both_merge<N: Nested>(
+pub(crate) fn both_merge<N: Nested>(
     alloc: Global,
     left: &N,
     right: &N,

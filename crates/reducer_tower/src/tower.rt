@@ -5,7 +5,11 @@ ghost use Rattle.loop_values.specs.Fits.{fits_tower};
 ghost use Rattle.reducer_tower.specs.Stands.{Stands};
 
 use crate::TowerState;
-use crate::leaves::*;
+use crate::leaves::{
+    count_merge, count_next, count_unit, found_merge, found_next, found_unit, list_merge,
+    list_next, list_unit, placed_merge, placed_next, placed_unit, prod_merge, prod_next, prod_unit,
+    sum_merge, sum_next, sum_unit, truth_merge, truth_next, truth_unit,
+};
 use crate::nested::{
     Nested, both_merge, both_next, both_unit, grouped_merge, grouped_next, grouped_unit,
 };

@@ -3,7 +3,7 @@ use Rattle.std.specs.Prelude.{[], ◌∷◌, codes, length}
 use Rattle.std.specs.Fmt.{decimal}
 use Rattle.std.proofs.lemmas.Result.{IfOk-weaker}
 use Rattle.loop_meaning.specs.Reducers.{reducers_of}
-use Rattle.plain_path.proofs.RowLemmas.{row_counted}
+use Rattle.program_rows.proofs.RowLemmas.{row_counted}
 use Rattle.floop_run.specs.Answers.{done}
 use Rattle.floop_run.specs.Results.{line}
 use Rattle.floop_run.proofs.LineLemmas.{five_pieces}

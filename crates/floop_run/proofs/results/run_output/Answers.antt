@@ -1,7 +1,7 @@
 use Rattle.std.proofs.Common.{◌++◌, subst}
 use Rattle.reducer_tower.specs.Rows.{starts_of}
 use Rattle.plain_path.specs.Paths.{IsEnd}
-use Rattle.plain_path.specs.Rows.{numbered}
+use Rattle.program_rows.specs.Pairs.{numbered}
 use Rattle.floop_run.specs.Results.{whole_run}
 use Rattle.floop_run.proofs.results.run_output.Goals as goal
 

@@ -1,4 +1,4 @@
-use Rattle.plain_path.specs.Rows.{numbered}
+use Rattle.program_rows.specs.Pairs.{numbered}
 use Rattle.plain_path.proofs.fold.done.Goals as goal
 
 -- the states with the start values stand for those and what the run emitted

@@ -1,7 +1,6 @@
 use Rattle.std.proofs.Common.{◌++◌, sym, ap, subst, ◌∙◌}
 use Rattle.loop_meaning.specs.Steps.{body_step}
-use Rattle.plain_path.specs.Rows.{numbered}
-use Rattle.plain_path.specs.Walked.{TakeBehind}
+use Rattle.program_rows.specs.Pairs.{TakeBehind, numbered}
 use Rattle.plain_path.proofs.FoldLemmas.{kept_item}
 use Rattle.plain_path.proofs.fold.walk_item.Goals as goal
 

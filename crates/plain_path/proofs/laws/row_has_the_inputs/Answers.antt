@@ -1,5 +1,0 @@
-use Rattle.plain_path.proofs.InputLemmas.{inputs_in_row}
-use Rattle.plain_path.proofs.laws.row_has_the_inputs.Goals as goal
-
-pub returns : goal.returns
-returns c = inputs_in_row

@@ -1,0 +1,4 @@
+pub mod FitLemmas
+pub mod InputLemmas
+pub mod PairLemmas
+pub mod RowLemmas
