@@ -1,17 +1,17 @@
 -- The `@reduce` lines of a program, with the kinds of their towers, and which inputs fit the reducers.
 -- Source: this project.
-use Rattle.std.specs.Prelude.{◌≡◌, ℕ, Bool, true, false, if◌then◌else◌, List, [], ◌∷◌, ◌++◌, map, Option, Some, None}
+use Rattle.std.specs.Prelude.{◌≡◌, ℕ, Bool, true, false, if◌then◌else◌, List, [], ◌∷◌, Option, Some, None}
 use Rattle.std.specs.Str.{bytes_eq}
 use Rattle.loop_data.specs.declared.value.Value.{Value}
 use Rattle.loop_data.specs.declared.tower.Kind.{Kind}
 use Rattle.loop_data.specs.declared.statement.Statement.{Statement}
 use Rattle.loop_data.specs.declared.statement.Branch.{Branch}
-use Rattle.loop_data.specs.declared.statement.Statement.TheOpen.{Statement-F, Statement-F as s, Branch-F}
-use Rattle.loop_data.specs.declared.statement.Statement.TheFolds.{fold-Statement, fold-Branch}
+use Rattle.loop_data.specs.declared.statement.Statement.TheOpen.{Statement-F, Branch-F}
 use Rattle.loop_grammar.specs.declared.tree.ProgramTree.{ProgramTree}
 use Rattle.loop_values.specs.Fits.{fits_tower}
 use Rattle.tower_inputs.specs.Towers.{kind_of_tower}
 use Rattle.loop_meaning.specs.declared.steps.Pair.{Pair}
+use Rattle.loop_meaning.specs.Reducers.{Telling, all_told, branch_told, told_in, told_in_branch, told_of, told_step}
 
 -- an `@reduce` line: its reducer's name, the kind of its tower, and the value after `from`, if it has one
 pub record ReduceLine : Type 0 where
@@ -19,28 +19,27 @@ pub record ReduceLine : Type 0 where
   pub kind : Kind
   pub start : Option Value
 
+abbrev pub reduce_line : Telling ReduceLine
+reduce_line name tower start = record { name = name; kind = kind_of_tower tower; start = start }
+
 abbrev pub all_lines : List (List ReduceLine) → List ReduceLine
-all_lines [] = []
-all_lines (lines ∷ more) = lines ++ all_lines more
+all_lines = all_told
 
 abbrev pub branch_lines : Branch-F (List ReduceLine) (List ReduceLine) → List ReduceLine
-branch_lines b = all_lines b.block
+branch_lines = branch_told
 
--- one layer of a statement, given the `@reduce` lines of its parts
 abbrev pub lines_step : Statement-F (List ReduceLine) (List ReduceLine) → List ReduceLine
-lines_step (s.If line branches else_line other end_line) = all_lines branches ++ all_lines other
-lines_step (s.Reduce line name tower start) = record { name = name; kind = kind_of_tower tower; start = start } ∷ []
-lines_step _ = []
+lines_step = told_step reduce_line
 
 abbrev pub lines_in : Statement → List ReduceLine
-lines_in = fold-Statement (List ReduceLine) (List ReduceLine) lines_step branch_lines
+lines_in = told_in reduce_line
 
 abbrev pub lines_in_branch : Branch → List ReduceLine
-lines_in_branch = fold-Branch (List ReduceLine) (List ReduceLine) lines_step branch_lines
+lines_in_branch = told_in_branch reduce_line
 
 -- the `@reduce` lines of a program, by rising lines
 abbrev pub reduce_lines : ProgramTree → List ReduceLine
-reduce_lines program = all_lines (map lines_in program.body)
+reduce_lines = told_of reduce_line
 
 -- the kind of the first of these lines that has this name
 abbrev pub kind_among : List ReduceLine → List ℕ → Option Kind

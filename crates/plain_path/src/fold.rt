@@ -1,7 +1,6 @@
 //! The plain loop folded into a row.
 
 ghost use Rattle.std.specs.Prelude.{◌≡◌, ◌+◌, ◌<◌, ◌≤◌, ◌^◌, [], true, IfOk, OnOk, length};
-ghost use Rattle.loop_grammar.specs.SkippedFaults.{skips_faults};
 ghost use Rattle.loop_meaning.specs.declared.runs.Run.{Run};
 ghost use Rattle.loop_meaning.specs.Runs.{is_skipped, no_run, stop_at};
 ghost use Rattle.loop_meaning.specs.Stores.{start_store};
@@ -14,7 +13,7 @@ ghost use Rattle.plain_path.specs.Walked.{StandsFor, item_run};
 use legality_check::LegalProgram;
 use loop_data::{Many, Value};
 use loop_items::{HeadItems, Walk};
-use loop_meaning::{BodyEnd, Pair, start_store, step_plain};
+use loop_meaning::{BodyEnd, Pair, is_skipped, start_store, step_plain};
 use loop_syntax::Program;
 use loop_values::Env;
 use no_memory::NoMemory;
@@ -40,13 +39,6 @@ struct Walked {
     skipped: u64,
     /// Where an item's pairs are put; empty between items, so that they share its memory.
     emitted: Many<Pair>,
-}
-
-/// Whether the program skips the fault in which a step ended, if it ended so.
-fn is_skipped(program: &Program, end: BodyEnd) -> bool
-    ensures { result ≡ is_skipped (skips_faults program.now) end }
-{
-    program.skips_faults() && matches!(end, BodyEnd::Fault { .. })
 }
 
 /// The run before its first item.

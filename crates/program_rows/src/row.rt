@@ -9,21 +9,12 @@ ghost use Rattle.program_rows.specs.Rows.{named_line, with_line, with_lines, row
 
 use fitting_inputs::laws::legal_reducers_have_one_tower;
 use legality_check::LegalProgram;
-use loop_data::{Branch, Statement, TextValue, TowerExpr, Value};
+use loop_data::{Branch, Statement, TextValue, TowerExpr, Value, copy_start};
 use loop_grammar::ProgramTree;
 use no_memory::NoMemory;
 use reducer_tower::{Named, Row, Tower};
 use std::alloc::Global;
 use tower_inputs::kind_of_tower;
-
-fn copy_start(alloc: Global, start: &Option<Value>) -> Result<Option<Value>, NoMemory>
-    ensures { IfOk result (λ copy. copy ≡ start.now) }
-{
-    match start {
-        None => Ok(None),
-        Some(value) => Ok(Some(value.copy(alloc)?)),
-    }
-}
 
 /// Puts the tower of an `@reduce` line last, with the line's name and start value.
 fn push_line(
