@@ -12,12 +12,7 @@ use std::alloc::{AllocError, Global};
 fn read_files(alloc: Global, files: &[&[u8]]) -> Result<Table, TableRefusal> {
     let mut table = Table::empty(alloc);
     for file in files {
-        let bytes: &[u8] = *file;
-        if table.files() == 0 {
-            table = Table::read(alloc, bytes)?;
-        } else {
-            table.append(alloc, bytes)?;
-        }
+        table.append(alloc, *file)?;
     }
     Ok(table)
 }

@@ -6,7 +6,7 @@ use Rattle.column_input.proofs.TableLemmas.{handed_on}
 use Rattle.column_input.specs.Chunk.{Grid}
 use Rattle.column_input.specs.Table.{Contents}
 use Rattle.column_input.specs.declared.refusal.TableRefusal.TheVariants as refused
-use Rattle.column_input.proofs.table.Table.append_within.Goals as goal
+use Rattle.column_input.proofs.table.Table.append_further.Goals as goal
 
 pub returns-in_err-pass_header-clause-refused : goal.returns-in_err-pass_header-clause-refused
 returns-in_err-pass_header-clause-refused c =
