@@ -17,9 +17,9 @@ fn holds(held: &NamedBytes, name: &str, bytes: &[u8]) -> bool {
 #[test]
 fn names_hold_their_last_bytes(rt: HostRuntime) -> Result<(), Fail> {
     let mut held = NamedBytes::new(rt.alloc());
-    held.insert(rt.alloc(), "a", b"1")?;
-    held.insert(rt.alloc(), "", b"2")?;
-    held.insert(rt.alloc(), "a", b"3")?;
+    held.insert(rt.alloc(), "a", Vec::from_slice(rt.alloc(), b"1")?)?;
+    held.insert(rt.alloc(), "", Vec::from_slice(rt.alloc(), b"2")?)?;
+    held.insert(rt.alloc(), "a", Vec::from_slice(rt.alloc(), b"3")?)?;
     assert!(rt; holds(&held, "a", b"3"));
     assert!(rt; holds(&held, "", b"2"));
     assert!(rt; held.get("A").is_none());

@@ -8,3 +8,5 @@
 mod edge;
 #[cfg(test)]
 mod shapes;
+#[cfg(test)]
+mod words;

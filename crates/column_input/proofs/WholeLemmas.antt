@@ -1,7 +1,7 @@
 -- What holds where no file is refused.
 use Rattle.std.proofs.Common.{◌≡◌, ◌∙◌, ◌<◌, ◌≤◌, ◌+◌, ◌*◌, ◌++◌, ℕ, zero, suc, List, [], ◌∷◌, Bool, true, false, Option, Some, None, Result, Ok, Err, All, length, refl, sym, arith, append_assoc, length-append}
 use Rattle.std.proofs.Math.Seq.{take-length}
-use Rattle.std.proofs.lemmas.Bool.{eqb-true, ltb-false}
+use Rattle.std.proofs.lemmas.Bool.{eqb-true, ltb-false, ne_eqb}
 use Rattle.std.proofs.lemmas.List.{append-nil}
 use Rattle.std.proofs.lemmas.List.Elements.{All-append, All-cons, All-nil}
 use Rattle.std.proofs.lemmas.List.Sums.{sum_by-append, sum_by-cons}
@@ -19,7 +19,7 @@ use Rattle.column_input.specs.Limits.{max_columns, max_fields}
 use Rattle.column_input.specs.Records.{Fields, records_of}
 use Rattle.column_input.specs.RecordsInside.{IsBetween}
 use Rattle.column_input.specs.Refusals.{differs_or, fields_up_to, first_difference, first_file_refusal, further_file_refusal, further_header_refusal, header_first, header_refusal, row_refusal, row_refusals}
-use Rattle.column_input.specs.Table.{Contents, all_appended_within, appended_within, contents, fields_in, first_contents, first_table_within, further_contents, rows_after_header, table_of, unless_refused}
+use Rattle.column_input.specs.Table.{Contents, all_appended_within, appended_within, contents, fields_in, first_contents, first_table_within, further_contents, further_table_within, rows_after_header, table_of, unless_refused}
 use Rattle.column_input.specs.Whole.{HoldsFiles, IsWhole, rows_of_files}
 use Rattle.column_input.specs.declared.refusal.TableRefusal.{TableRefusal}
 use Rattle.column_input.specs.declared.refusal.TableRefusal.TheVariants as refused
@@ -226,20 +226,29 @@ pub err_stays : (limit : ℕ) (refusal : TableRefusal) (files : List (List ℕ))
 err_stays limit refusal [] = refl
 err_stays limit refusal (bytes ∷ files) = refl
 
-all_held : (files further : List (List ℕ)) (start table : Contents) → Held files start → all_appended_within max_fields (Ok start) further ≡ Ok table
+-- a further file of a table that has some
+further_where : (limit : ℕ) (table : Contents) (bytes : List ℕ) → 0 < table.files → appended_within limit table bytes ≡ further_table_within limit table bytes
+further_where limit table bytes some =
+    let further : (table.files == 0) ≡ false = ne_eqb table.files 0 (λ e. absurd (omega arith)) in
+    rw further refl
+
+all_held : (files further : List (List ℕ)) (start table : Contents) → 0 < length files → Held files start → all_appended_within max_fields (Ok start) further ≡ Ok table
     → Held (files ++ further) table
-all_held files [] start table held e =
+all_held files [] start table some held e =
     let same : start ≡ table = cc e in
     rw (← same, append-nil files) held
-all_held files (bytes ∷ further) start table held e =
+all_held files (bytes ∷ further) start table some held e =
+    let one_more : length (files ++ bytes ∷ []) ≡ length files + 1 = length-append files (bytes ∷ []) in
+    let count = held.holds.count in
+    let there : 0 < start.files = omega arith in
     rw (append_assoc files (bytes ∷ []) further) at
-    (by (appended_within max_fields start bytes) refl e (λ next here more. all_held (files ++ bytes ∷ []) further next table here more))
+    (by there (appended_within max_fields start bytes) refl e (λ next here more. all_held (files ++ bytes ∷ []) further next table (omega arith) here more))
   where
-    by : (result : Result Contents TableRefusal) → appended_within max_fields start bytes ≡ result → all_appended_within max_fields result further ≡ Ok table
+    by : 0 < start.files → (result : Result Contents TableRefusal) → appended_within max_fields start bytes ≡ result → all_appended_within max_fields result further ≡ Ok table
         → ((next : Contents) → Held (files ++ bytes ∷ []) next → all_appended_within max_fields (Ok next) further ≡ Ok table → Held ((files ++ bytes ∷ []) ++ further) table)
         → Held ((files ++ bytes ∷ []) ++ further) table
-    by (Err refusal) is e more = cc (sym (err_stays max_fields refusal further) ∙ e)
-    by (Ok next) is e more = more next (next_held files bytes (records_of bytes) start next held refl is) e
+    by there (Err refusal) is e more = cc (sym (err_stays max_fields refusal further) ∙ e)
+    by there (Ok next) is e more = more next (next_held files bytes (records_of bytes) start next held refl (sym (further_where max_fields start bytes there) ∙ is)) e
 
 files_held : (first : List ℕ) (further : List (List ℕ)) (table : Contents) → table_of (first ∷ further) ≡ Ok table → Held (first ∷ further) table
 files_held first further table e = by (first_table_within max_fields first) refl e
@@ -247,7 +256,7 @@ files_held first further table e = by (first_table_within max_fields first) refl
     by : (result : Result Contents TableRefusal) → first_table_within max_fields first ≡ result → all_appended_within max_fields result further ≡ Ok table
         → Held (first ∷ further) table
     by (Err refusal) is e = cc (sym (err_stays max_fields refusal further) ∙ e)
-    by (Ok start) is e = all_held (first ∷ []) further start table (first_held first (records_of first) start refl is) e
+    by (Ok start) is e = all_held (first ∷ []) further start table (omega arith) (first_held first (records_of first) start refl is) e
 
 pub is_whole : (first : List ℕ) (further : List (List ℕ)) (table : Contents) → table_of (first ∷ further) ≡ Ok table → IsWhole table
 is_whole first further table e = (files_held first further table e).whole

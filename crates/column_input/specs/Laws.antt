@@ -24,13 +24,13 @@ TablesHoldTheirFiles =
 
 -- the table of one more file is the table with that file appended
 abbrev pub OneMoreFileIsAppended : Type 0
-OneMoreFileIsAppended = (first : List ℕ) (further : List (List ℕ)) (more : List ℕ) (table : Contents)
-    → table_of (first ∷ further) ≡ Ok table → table_of (first ∷ further ++ more ∷ []) ≡ appended table more
+OneMoreFileIsAppended =
+    (files : List (List ℕ)) (more : List ℕ) (table : Contents) → table_of files ≡ Ok table → table_of (files ++ more ∷ []) ≡ appended table more
 
 -- the first refusal of the first file that has one stays, whatever files follow
 abbrev pub TheFirstRefusalStays : Type 0
-TheFirstRefusalStays = (first : List ℕ) (further more : List (List ℕ)) (refusal : TableRefusal)
-    → table_of (first ∷ further) ≡ Err refusal → table_of (first ∷ further ++ more) ≡ Err refusal
+TheFirstRefusalStays =
+    (files more : List (List ℕ)) (refusal : TableRefusal) → table_of files ≡ Err refusal → table_of (files ++ more) ≡ Err refusal
 
 -- two lists of fields differ nowhere exactly where they are equal
 abbrev pub DifferNowhereWhereEqual : Type 0

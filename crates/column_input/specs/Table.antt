@@ -1,6 +1,6 @@
 -- The table of a list of files under one header, and the first refusal of the first file that has one.
 -- Source: RFC 4180 for records and the header; several files under one header are this project's.
-use Rattle.std.specs.Prelude.{◌+◌, ◌*◌, ◌++◌, ℕ, List, [], ◌∷◌, Option, Some, None, Result, Ok, Err, length, map, option_map, position, slice_index_or, sum_by}
+use Rattle.std.specs.Prelude.{◌==◌, if◌then◌else◌, ◌+◌, ◌*◌, ◌++◌, ℕ, List, [], ◌∷◌, Option, Some, None, Result, Ok, Err, length, map, option_map, position, slice_index_or, sum_by}
 use Rattle.std.specs.Str.{bytes_eq}
 use Rattle.column_input.specs.Limits.{max_fields}
 use Rattle.column_input.specs.Records.{Fields, records_of}
@@ -43,16 +43,20 @@ further_contents table records = contents table.header (table.rows ++ rows_after
 abbrev pub first_table_within : ℕ → List ℕ → Result Contents TableRefusal
 first_table_within limit bytes = unless_refused (first_file_refusal limit (records_of bytes)) (first_contents (records_of bytes))
 
--- a table with a further file, where all files may have `limit` fields
-abbrev pub appended_within : ℕ → Contents → List ℕ → Result Contents TableRefusal
-appended_within limit table bytes =
+-- a table of some files with a further one, where all files may have `limit` fields
+abbrev pub further_table_within : ℕ → Contents → List ℕ → Result Contents TableRefusal
+further_table_within limit table bytes =
     unless_refused (further_file_refusal limit (fields_in table) table.header (records_of bytes)) (further_contents table (records_of bytes))
 
--- a table with a further file
+-- a table with one more file, which may be its first
+abbrev pub appended_within : ℕ → Contents → List ℕ → Result Contents TableRefusal
+appended_within limit table bytes = if table.files == 0 then first_table_within limit bytes else further_table_within limit table bytes
+
+-- a table with one more file, where all files may have `max_fields` fields
 abbrev pub appended : Contents → List ℕ → Result Contents TableRefusal
 appended table bytes = appended_within max_fields table bytes
 
--- a table with further files, one after another, unless there was a refusal
+-- a table with more files, one after another, unless there was a refusal
 abbrev pub all_appended_within : ℕ → Result Contents TableRefusal → List (List ℕ) → Result Contents TableRefusal
 all_appended_within limit table [] = table
 all_appended_within limit (Err refusal) (bytes ∷ files) = Err refusal
@@ -60,8 +64,7 @@ all_appended_within limit (Ok table) (bytes ∷ files) = all_appended_within lim
 
 -- the table of these files, where all together may have `limit` fields, or the first refusal of the first file that has one
 abbrev pub table_within : ℕ → List (List ℕ) → Result Contents TableRefusal
-table_within limit [] = Ok (contents [] [] 0)
-table_within limit (bytes ∷ files) = all_appended_within limit (first_table_within limit bytes) files
+table_within limit files = all_appended_within limit (Ok (contents [] [] 0)) files
 
 -- the table of these files, or the first refusal of the first file that has one
 abbrev pub table_of : List (List ℕ) → Result Contents TableRefusal

@@ -17,8 +17,8 @@ pub fn tables_hold_their_files()
     ensures { TablesHoldTheirFiles }
 {}
 
-/// The table of one more file is the table with that file appended: so [`crate::Table::read`] of the first file and one
-/// [`crate::Table::append`] for each further one give the table of all.
+/// The table of one more file is the table with that file appended: so one [`crate::Table::append`] for each file, to a table that
+/// was empty, gives the table of all.
 pub fn one_more_file_is_appended()
     ensures { OneMoreFileIsAppended }
 {}

@@ -3,7 +3,7 @@
 ghost use Rattle.std.specs.Prelude.{◌≡◌, ◌≢◌, ◌+◌, ◌-◌, ◌<◌, ◌≤◌, ◌∷◌, [], Ok, Err, Some, IfOk, OnOk, IfErr, OnErr, IfSome, IsSome, Contains, ◌↔◌, length, slice_get};
 ghost use Rattle.column_input.specs.Chunk.{cell_at};
 ghost use Rattle.column_input.specs.Limits.{max_fields};
-ghost use Rattle.column_input.specs.Table.{appended, appended_within, column_of, contents, table_of, table_within};
+ghost use Rattle.column_input.specs.Table.{appended, appended_within, column_of, contents, further_table_within, table_of, table_within};
 ghost use Rattle.column_input.specs.declared.refusal.TableRefusal.TheVariants as refused;
 
 use crate::MAX_FIELDS;
@@ -93,14 +93,14 @@ impl Table {
         })
     }
 
-    /// Reads a further file into the table: the rows are those before, followed by the file's records after its header, which
-    /// has to be the table's. One byte-order mark is dropped at the file's very start.
+    /// Reads one more file into the table. The first makes the table, as [`Table::read`] does. Of a further one the rows are those
+    /// before, followed by the file's records after its header, which has to be the table's. One byte-order mark is dropped at
+    /// the file's very start.
     ///
     /// # Errors
     ///
     /// The first refusal of the file's records, or [`TableRefusal::NoMemory`]. The table is as before then.
     pub fn append(&mut self, alloc: Global, bytes: &[u8]) -> Result<(), TableRefusal>
-        requires read { 0 < self.old.files }
         ensures rows { OnOk result (appended self.old bytes.now ≡ Ok self.new) }
         ensures refused { IfErr result (λ refusal. refusal ≢ refused.NoMemory
             → appended self.old bytes.now ≡ Err refusal) }
@@ -121,11 +121,32 @@ impl Table {
         bytes: &[u8],
         limit: u64,
     ) -> Result<(), TableRefusal>
-        requires read { 0 < self.old.files }
         requires limit { limit ≤ max_fields }
         ensures rows { OnOk result (appended_within limit self.old bytes.now ≡ Ok self.new) }
         ensures refused { IfErr result (λ refusal. refusal ≢ refused.NoMemory
             → appended_within limit self.old bytes.now ≡ Err refusal) }
+        ensures kept { OnErr result (self.new ≡ self.old) }
+        ensures files { OnOk result (self.new.files ≡ self.old.files + 1) }
+    {
+        if self.files() == 0 {
+            *self = Table::read_within(alloc, bytes, limit)?;
+            return Ok(());
+        }
+        self.append_further(alloc, bytes, limit)
+    }
+
+    /// Reads a further file into the table of some files.
+    fn append_further(
+        &mut self,
+        alloc: Global,
+        bytes: &[u8],
+        limit: u64,
+    ) -> Result<(), TableRefusal>
+        requires read { 0 < self.old.files }
+        requires limit { limit ≤ max_fields }
+        ensures rows { OnOk result (further_table_within limit self.old bytes.now ≡ Ok self.new) }
+        ensures refused { IfErr result (λ refusal. refusal ≢ refused.NoMemory
+            → further_table_within limit self.old bytes.now ≡ Err refusal) }
         ensures kept { OnErr result (self.new ≡ self.old) }
         ensures files { OnOk result (self.new.files ≡ self.old.files + 1) }
     {

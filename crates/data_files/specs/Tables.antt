@@ -4,7 +4,7 @@ use Rattle.std.specs.Borrow.{Bor}
 use Rattle.std.specs.Prelude.{ℕ, ◌+◌, ◌==◌, nat_le, if◌then◌else◌, List, [], ◌∷◌, length, map, Option, Some, None, Result, Ok, Err}
 use Rattle.std.specs.FinMap.{get}
 use Rattle.edge_io.specs.Reading.{Held}
-use Rattle.column_input.specs.Table.{Contents, contents, table_of, appended}
+use Rattle.column_input.specs.Table.{Contents, contents, appended}
 use Rattle.column_input.specs.declared.refusal.TableRefusal.{TableRefusal}
 use Rattle.column_input.specs.declared.refusal.TableRefusal.TheVariants as refused
 use Rattle.data_files.specs.declared.stop.DataFile.{DataFile}
@@ -21,10 +21,6 @@ data_file_limit = 67108864
 abbrev pub names_seen : List (Bor (List ℕ)) → List (List ℕ)
 names_seen names = map (λ name. name.now) names
 
--- a file with these bytes taken into the table of the files before it: the first file makes the table
-abbrev pub taken_in : Contents → List ℕ → Result Contents TableRefusal
-taken_in table bytes = if table.files == 0 then table_of (bytes ∷ []) else appended table bytes
-
 -- what is told of a table's refusal
 abbrev pub of_table : DataFile → TableRefusal → DataStop
 of_table which refused.NoMemory = stop.NoMemory
@@ -38,7 +34,7 @@ told which (Err why) = Err (of_table which why)
 abbrev pub file_taken : DataFile → Contents → Option (List ℕ) → Result Contents DataStop
 file_taken which table None = Err stop.NotHeld
 file_taken which table (Some bytes) =
-    if nat_le (length bytes) data_file_limit then told which (taken_in table bytes) else Err (stop.Refused (refusal.TooLong which))
+    if nat_le (length bytes) data_file_limit then told which (appended table bytes) else Err (stop.Refused (refusal.TooLong which))
 
 -- which file of so many it is that so many stand before: the only one, or one of several by its number
 abbrev pub file_at : ℕ → ℕ → DataFile
@@ -49,7 +45,8 @@ abbrev pub and_then : Result Contents DataStop → (Contents → Result Contents
 and_then (Ok table) next = next table
 and_then (Err why) next = Err why
 
--- files of so many in all, so many standing before these, taken into the table of those before, in order up to the first that can't be
+-- files of so many in all, so many standing before these, taken into the table of those before, in order up to the first that
+-- can't be
 abbrev pub files_taken : ℕ → ℕ → Contents → List (List ℕ) → Held → Result Contents DataStop
 files_taken count before table [] held = Ok table
 files_taken count before table (name ∷ names) held =

@@ -4,6 +4,7 @@
 //! at a time are held besides the table. The first file that can't be taken ends it, with a [`DataStop`] that says why.
 #![tactic(auto)]
 
+pub mod laws;
 mod read;
 mod stop;
 

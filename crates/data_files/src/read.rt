@@ -1,11 +1,10 @@
 //! Data files read into a table.
 
-ghost use Rattle.std.specs.Prelude.{◌≡◌, ◌≢◌, ◌<◌, Ok, Err, IfOk, OnOk, IfErr, IfSome, length, map};
+ghost use Rattle.std.specs.Prelude.{◌≡◌, ◌≢◌, ◌<◌, ◌≤◌, ◌+◌, Ok, Err, OnOk, IfErr, IfSome, length};
 ghost use Rattle.std.specs.FinMap.{get};
-ghost use Rattle.edge_io.specs.Faults.{Rose};
-ghost use Rattle.column_input.specs.declared.refusal.TableRefusal.TheVariants as refused;
+ghost use Rattle.edge_io.specs.Counts.{counted, counted_times, RoseByOne};
 ghost use Rattle.data_files.specs.declared.stop.DataStop.TheVariants as stop;
-ghost use Rattle.data_files.specs.Tables.{names_seen, taken_in, of_table, file_taken, file_at, data_table};
+ghost use Rattle.data_files.specs.Tables.{names_seen, of_table, file_taken, file_at, data_table};
 
 use crate::{DataFile, DataRefusal, DataStop};
 use column_input::{Table, TableRefusal};
@@ -14,18 +13,6 @@ use std::alloc::Global;
 
 /// The most bytes of a data file.
 pub(crate) const DATA_FILE_LIMIT: u64 = 67108864;
-
-/// Takes a file with these bytes into the table of the files before it.
-fn take_in(alloc: Global, table: &mut Table, bytes: &[u8]) -> Result<(), TableRefusal>
-    ensures rows { OnOk result (taken_in table.old bytes.now ≡ Ok table.new) }
-    ensures refused { IfErr result (λ why. why ≢ refused.NoMemory → taken_in table.old bytes.now ≡ Err why) }
-{
-    if table.files() == 0 {
-        *table = Table::read(alloc, bytes)?;
-        return Ok(());
-    }
-    table.append(alloc, bytes)
-}
 
 /// What is told of the table's refusal, if there is one.
 fn refusal_of(which: DataFile, why: TableRefusal) -> DataStop
@@ -50,13 +37,14 @@ fn read_file<F: Files>(
     ensures refused { IfSome (F.held files.old) (λ held.
         IfErr result (λ why. why ≢ stop.Failed → why ≢ stop.NoMemory →
         file_taken which table.old (get held name.now) ≡ Err why)) }
-    ensures failed { result ≡ Err stop.Failed → Rose (F.faults files.old) (F.faults files.new) }
+    ensures reads { F.reads files.new ≡ counted (F.reads files.old) }
+    ensures failed { result ≡ Err stop.Failed → RoseByOne (F.faults files.old) (F.faults files.new) }
     ensures kept { result ≢ Err stop.Failed → F.faults files.new ≡ F.faults files.old }
     ensures held { F.held files.new ≡ F.held files.old }
 {
     let mut bytes = Vec::new(alloc);
     match files.read_named(alloc, name, DATA_FILE_LIMIT, &mut bytes) {
-        Ok(()) => match take_in(alloc, table, &bytes) {
+        Ok(()) => match table.append(alloc, &bytes) {
             Ok(()) => Ok(()),
             Err(why) => Err(refusal_of(which, why)),
         },
@@ -79,11 +67,12 @@ fn file_at(count: usize, before: usize) -> DataFile
     }
 }
 
-/// The table of the data files of these names, which may be none; each is read once, in order, and taken in before the next is read.
+/// The table of the data files of these names, which may be none; each is read once, in order, and taken in before the next is read,
+/// up to the first that can't be taken.
 ///
 /// # Errors
 ///
-/// - `Failed` only where the count of faults rose in this call; nothing is read after it.
+/// - `Failed` only where the count of faults rose in this call, by one; nothing is read after it.
 /// - Else, of the first file that can't be taken: `NotHeld` where it isn't held; `Refused` where it has over 67,108,864 bytes, or
 ///   where its records are no table or don't go on with the table of the files before. Where what is held isn't told, that a file
 ///   isn't held is the implementation's word.
@@ -93,8 +82,12 @@ pub fn read_data<F: Files>(alloc: Global, names: &[&str], files: &mut F) -> Resu
     ensures table { IfSome (F.held files.old) (λ held. result ≢ Err stop.Failed → result ≢ Err stop.NoMemory →
         result ≡ data_table (names_seen names.now) held) }
 
-    // A failed read is told by the count, which no other answer moves.
-    ensures failed { result ≡ Err stop.Failed → Rose (F.faults files.old) (F.faults files.new) }
+    // Each file is read once, where there is a table, and else none more than once.
+    ensures each_read { OnOk result (F.reads files.new ≡ counted_times (length names.now) (F.reads files.old)) }
+    ensures reads { F.reads files.new ≤ F.reads files.old + length names.now }
+
+    // A failed read is told by the count of faults, which no other answer moves; none is tried again.
+    ensures failed { result ≡ Err stop.Failed → RoseByOne (F.faults files.old) (F.faults files.new) }
     ensures kept { result ≢ Err stop.Failed → F.faults files.new ≡ F.faults files.old }
 
     // No read changes what is held, or whether it is told.

@@ -1,4 +1,5 @@
-pub mod Faults
+pub mod Counts
+pub mod HostModels
 pub mod Keyed
 pub mod Laws
 pub mod MemoryModels

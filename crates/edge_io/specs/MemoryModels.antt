@@ -7,7 +7,7 @@ use Rattle.std.specs.FinMap as map
 use Rattle.std.specs.FinSet as set
 use Rattle.edge_io.specs.declared.files.ReadStop.{ReadStop}
 use Rattle.edge_io.specs.Reading.{Held, read_answer}
-use Rattle.edge_io.specs.Faults.{counted}
+use Rattle.edge_io.specs.Counts.{counted}
 
 -- Files in memory: what is held, the numbers of the reads that are named to fail, how many reads were
 -- made, and how many of them failed. Both counts stand still at the last value of a counter.

@@ -1,5 +1,5 @@
 ghost use Rattle.std.specs.Prelude.{◌≡◌, ◌≢◌, ◌≤◌, ◌++◌, ℕ, OnOk, OnErr, IfSome, Option};
-ghost use Rattle.edge_io.specs.Faults.{Rose};
+ghost use Rattle.edge_io.specs.Counts.{counted, RoseByOne};
 ghost use Rattle.std.specs.FinMap.{get};
 
 use no_memory::NoMemory;
@@ -8,7 +8,7 @@ use std::alloc::{AllocError, Global};
 /// Why a read by name gave no bytes, with the number of each cause.
 #[derive(Clone, Copy, Debug, PartialEq, Eq)]
 pub enum ReadStop {
-    /// The read failed, and the count of faults rose.
+    /// The read failed, and the count of faults rose by one.
     Failed = 1,
     /// More bytes stand there than the caller's limit.
     TooLong = 2,
@@ -47,14 +47,17 @@ pub trait Files {
     /// What is held, bytes by name, where it is told.
     ghost held: { Self → Option Held };
 
-    /// How many reads failed, up to 18,446,744,073,709,551,615, the last value of a counter.
+    /// How many reads were made, up to 18,446,744,073,709,551,615, the last value of a counter.
+    ghost reads: { Self → ℕ };
+
+    /// How many of them failed, up to the same value.
     ghost faults: { Self → ℕ };
 
     /// Appends all bytes held under `name` to `into`, where they are at most `limit` bytes.
     ///
     /// # Errors
     ///
-    /// - `Failed` only where the count of faults rose in this call.
+    /// - `Failed` only where the count of faults rose in this call, by one.
     /// - Else `NotHeld` exactly where the name isn't held, and `TooLong` exactly where more than `limit`
     ///   bytes stand there. Where what is held isn't told, both are the implementation's word.
     /// - `NoMemory` for want of memory, whatever the answer would be.
@@ -79,8 +82,11 @@ pub trait Files {
         ensures bounded { OnOk result (GrowsByAtMost limit into.old.items into.new.items) }
         ensures refused { OnErr result (into.new.items ≡ into.old.items) }
 
-        // `Failed` is told by the count, which never falls and which no other answer moves.
-        ensures failed { result ≡ Err ReadStop.Failed → Rose (faults self.old) (faults self.new) }
+        // Each call is one read more.
+        ensures reads { reads self.new ≡ counted (reads self.old) }
+
+        // `Failed` is told by the count of faults, which never falls and which no other answer moves.
+        ensures failed { result ≡ Err ReadStop.Failed → RoseByOne (faults self.old) (faults self.new) }
         ensures not_failed { result ≢ Err ReadStop.Failed → faults self.new ≡ faults self.old }
         ensures never_falls { faults self.old ≤ faults self.new };
 }

@@ -2,7 +2,8 @@ ghost use Rattle.std.specs.Prelude.{◌≡◌, ◌≢◌, ◌≤◌, ◌+◌, �
 ghost use Rattle.edge_io.specs.Reading.{Held, read_answer, Reads, GrowsByAtMost};
 ghost use Rattle.edge_io.specs.Writing.{Puts, PutsPrefix, endless_room};
 ghost use Rattle.edge_io.specs.SystemReads.{stop_of, chunk_of_error, chunk_read};
-ghost use Rattle.edge_io.specs.Faults.{counted};
+ghost use Rattle.edge_io.specs.Counts.{counted};
+ghost use Rattle.edge_io.specs.HostModels.{no_calls};
 
 use crate::files::{Files, ReadStop};
 use crate::sink::{Sink, SinkFailed};
@@ -16,38 +17,61 @@ use std::{io, rt};
 /// How many bytes one call asks of the system.
 const CHUNK: usize = 65536;
 
-/// The system's files, named by paths. They tell no bytes, and count the reads that failed.
+/// The system's files, named by paths. They tell no bytes, and count the reads and those that failed.
 ///
 /// A file that the system doesn't find is `NotHeld`, and the system's own want of memory is
 /// `NoMemory`; each other failure, as of a folder or a file that may not be read, is `Failed`.
-/// Contracts see the count alone.
+/// Contracts see the counts alone.
 #[derive(Drop)]
 pub struct HostFiles<R> {
     host: R,
+    reads: u64,
     faults: u64,
 }
 
 impl<R> Model for HostFiles<R> {
-    ghost use Rattle.std.specs.Prelude.{ℕ};
+    ghost use Rattle.edge_io.specs.HostModels.{CallCounts, counts_code};
 
-    ghost Value = { ℕ };
+    ghost Value = { CallCounts };
 
-    ghost view = { λ f. f.faults };
+    ghost coded = { counts_code };
+
+    ghost view = { λ f. record { calls = f.reads; faults = f.faults } };
 }
 
 impl<R: rt::Files + Drop> HostFiles<R> {
-    /// The files that this runtime reaches, with no fault.
+    /// The files that this runtime reaches, with no read made.
     pub fn new(host: R) -> HostFiles<R>
-        ensures { result ≡ 0 }
+        ensures { result ≡ no_calls }
     {
-        HostFiles { host, faults: 0 }
+        HostFiles {
+            host,
+            reads: 0,
+            faults: 0,
+        }
+    }
+
+    /// How many reads were made, up to the last value of a `u64`.
+    pub fn reads(&self) -> u64
+        ensures { result ≡ self.now.calls }
+    {
+        self.reads
+    }
+
+    /// How many of them failed.
+    pub fn faults(&self) -> u64
+        ensures { result ≡ self.now.faults }
+    {
+        self.faults
     }
 }
 
 impl<R: rt::Files + Drop> Files for HostFiles<R> {
     ghost held = { λ _. None };
 
-    ghost faults = { λ count. count };
+    ghost reads = { λ counts. counts.calls };
+
+    ghost faults = { λ counts. counts.faults };
 
     fn read_named(
         &mut self,
@@ -56,12 +80,14 @@ impl<R: rt::Files + Drop> Files for HostFiles<R> {
         limit: u64,
         into: &mut Vec<u8>,
     ) -> Result<(), ReadStop>
-        ensures failed { result ≡ Err ReadStop.Failed → self.new ≡ counted self.old }
-        ensures not_failed { result ≢ Err ReadStop.Failed → self.new ≡ self.old }
-        ensures never_falls { self.old ≤ self.new }
+        ensures reads { self.new.calls ≡ counted self.old.calls }
+        ensures failed { result ≡ Err ReadStop.Failed → self.new.faults ≡ counted self.old.faults }
+        ensures not_failed { result ≢ Err ReadStop.Failed → self.new.faults ≡ self.old.faults }
+        ensures never_falls { self.old.faults ≤ self.new.faults }
         ensures bounded { OnOk result (GrowsByAtMost limit into.old.items into.new.items) }
         ensures refused { OnErr result (into.new.items ≡ into.old.items) }
     {
+        self.reads = self.reads.saturating_add(1);
         let before = into.len();
         let read = read_file(&self.host, name, limit, into);
         if let Err(stop) = read {
@@ -152,34 +178,57 @@ fn stop_of(kind: ErrorKind) -> ReadStop
 }
 
 /// Standard output. It tells no bytes, has room for 18,446,744,073,709,551,615 bytes at all times,
-/// and counts the puts that failed. Contracts see the count alone.
+/// and counts the puts and those that failed. Contracts see the counts alone.
 #[derive(Drop)]
 pub struct HostSink<R> {
     host: R,
+    puts: u64,
     faults: u64,
 }
 
 impl<R> Model for HostSink<R> {
-    ghost use Rattle.std.specs.Prelude.{ℕ};
+    ghost use Rattle.edge_io.specs.HostModels.{CallCounts, counts_code};
 
-    ghost Value = { ℕ };
+    ghost Value = { CallCounts };
 
-    ghost view = { λ s. s.faults };
+    ghost coded = { counts_code };
+
+    ghost view = { λ s. record { calls = s.puts; faults = s.faults } };
 }
 
 impl<R: Print + Drop> HostSink<R> {
-    /// The standard output of this runtime, with no fault.
+    /// The standard output of this runtime, with no put made.
     pub fn new(host: R) -> HostSink<R>
-        ensures { result ≡ 0 }
+        ensures { result ≡ no_calls }
     {
-        HostSink { host, faults: 0 }
+        HostSink {
+            host,
+            puts: 0,
+            faults: 0,
+        }
+    }
+
+    /// How many puts were made, up to the last value of a `u64`.
+    pub fn puts(&self) -> u64
+        ensures { result ≡ self.now.calls }
+    {
+        self.puts
+    }
+
+    /// How many of them failed.
+    pub fn faults(&self) -> u64
+        ensures { result ≡ self.now.faults }
+    {
+        self.faults
     }
 }
 
 impl<R: Print + Drop> Sink for HostSink<R> {
     ghost written = { λ _. None };
 
-    ghost faults = { λ count. count };
+    ghost puts = { λ counts. counts.calls };
+
+    ghost faults = { λ counts. counts.faults };
 
     ghost room = { λ _. endless_room };
 
@@ -192,10 +241,12 @@ impl<R: Print + Drop> Sink for HostSink<R> {
     }
 
     fn put(&mut self, piece: &[u8]) -> Result<(), SinkFailed>
-        ensures failed { OnErr result (self.new ≡ counted self.old) }
-        ensures not_failed { OnOk result (self.new ≡ self.old) }
-        ensures never_falls { self.old ≤ self.new }
+        ensures puts { self.new.calls ≡ counted self.old.calls }
+        ensures failed { OnErr result (self.new.faults ≡ counted self.old.faults) }
+        ensures not_failed { OnOk result (self.new.faults ≡ self.old.faults) }
+        ensures never_falls { self.old.faults ≤ self.new.faults }
     {
+        self.puts = self.puts.saturating_add(1);
         if self.host.write_all(piece).is_err() {
             self.faults = self.faults.saturating_add(1);
             return Err(SinkFailed);

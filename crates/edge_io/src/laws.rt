@@ -1,6 +1,6 @@
 //! Laws of the definitions, each the contract of an empty function, and what threads share.
 
-ghost use Rattle.edge_io.specs.Laws.{NumbersTellCauses, RisenCountsAreLarger};
+ghost use Rattle.edge_io.specs.Laws.{CountsThatRoseByOneRose, NumbersTellCauses, RisenCountsAreLarger};
 
 use crate::named_bytes::NamedBytes;
 
@@ -9,9 +9,14 @@ pub fn numbers_tell_causes()
     ensures { NumbersTellCauses }
 {}
 
-/// A count of faults that rose is larger than before, unless it stands at the last value of a counter.
+/// A count that rose is larger than before, unless it stands at the last value of a counter.
 pub fn risen_counts_are_larger()
     ensures { RisenCountsAreLarger }
+{}
+
+/// A count that rose by one rose.
+pub fn counts_that_rose_by_one_rose()
+    ensures { CountsThatRoseByOneRose }
 {}
 
 fn is_shared<T: Send + Sync>() {}

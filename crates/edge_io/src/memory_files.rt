@@ -1,6 +1,5 @@
-ghost use Rattle.std.specs.Prelude.{◌≡◌, ◌≢◌, ◌≤◌, ◌+◌, ◌++◌, ◌↔◌, ℕ, OnOk, OnErr, IfSome, IsTrue, length, Result, Ok, Err, if◌then◌else◌, nat_le};
-ghost use Rattle.std.specs.Option.{option_copied};
-ghost use Rattle.edge_io.specs.Reading.{read_answer, Reads, GrowsByAtMost};
+ghost use Rattle.std.specs.Prelude.{◌≡◌, ◌≢◌, ◌≤◌, ◌↔◌, OnOk, OnErr, IsTrue, Err};
+ghost use Rattle.edge_io.specs.Reading.{Reads};
 
 use crate::calls::CallSet;
 use crate::files::{Files, ReadStop};
@@ -37,7 +36,7 @@ impl Model for MemoryFiles {
 }
 
 impl MemoryFiles {
-    ghost use Rattle.edge_io.specs.Faults.{last_count};
+    ghost use Rattle.edge_io.specs.Counts.{last_count};
     ghost use Rattle.edge_io.specs.MemoryModels.{no_files, files_with, with_failing_read, fails_next_read, after_read};
 
     /// No files, and no read that is named to fail.
@@ -61,6 +60,7 @@ impl MemoryFiles {
         ensures ok { OnOk result (self.new ≡ files_with self.old name.now bytes.now) }
         ensures err { OnErr result (self.new ≡ self.old) }
     {
+        let bytes = Vec::from_slice(alloc, bytes)?;
         self.held.insert(alloc, name, bytes)
     }
 
@@ -76,6 +76,20 @@ impl MemoryFiles {
         ensures err { OnErr result (self.new ≡ self.old) }
     {
         self.failing.insert(call)
+    }
+
+    /// How many reads were made, up to the last value of a `u64`.
+    pub fn reads(&self) -> u64
+        ensures { result ≡ self.now.reads }
+    {
+        self.reads
+    }
+
+    /// How many of them failed.
+    pub fn faults(&self) -> u64
+        ensures { result ≡ self.now.faults }
+    {
+        self.faults
     }
 
     /// Counts one more read, and says whether it is one that fails.
@@ -97,6 +111,8 @@ impl Files for MemoryFiles {
     ghost use Rattle.edge_io.specs.MemoryModels.{held_answer, fails_next_read, after_read};
 
     ghost held = { λ f. Some f.held };
+
+    ghost reads = { λ f. f.reads };
 
     ghost faults = { λ f. f.faults };
 
@@ -120,24 +136,6 @@ impl Files for MemoryFiles {
         if self.begin_read() {
             return Err(ReadStop::Failed);
         }
-        append(self.held.get(name), limit, into)
+        self.held.read_named(name, limit, into)
     }
-}
-
-/// Appends what a name holds, if anything, where it is at most `limit` bytes.
-fn append(held: Option<&[u8]>, limit: u64, into: &mut Vec<u8>) -> Result<(), ReadStop>
-    ensures answer { result ≢ Err ReadStop.NoMemory →
-        Reads (read_answer (option_copied held.entry) limit) result into.old.items into.new.items }
-    ensures bounded { OnOk result (GrowsByAtMost limit into.old.items into.new.items) }
-    ensures refused { OnErr result (into.new.items ≡ into.old.items) }
-    ensures not_failed { result ≢ Err ReadStop.Failed }
-{
-    let Some(bytes) = held else {
-        return Err(ReadStop::NotHeld);
-    };
-    if bytes.len() as u64 > limit {
-        return Err(ReadStop::TooLong);
-    }
-    into.extend_from_slice(bytes)?;
-    Ok(())
 }

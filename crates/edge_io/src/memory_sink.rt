@@ -36,7 +36,7 @@ impl Model for MemorySink {
 }
 
 impl MemorySink {
-    ghost use Rattle.edge_io.specs.Faults.{last_count};
+    ghost use Rattle.edge_io.specs.Counts.{last_count};
     ghost use Rattle.edge_io.specs.MemoryModels.{new_sink, with_failing_put, SameButRoom, kept_by_next_put, after_begun_put, with_piece};
 
     /// Nothing written, no room yet, and no put that is named to fail.
@@ -74,6 +74,20 @@ impl MemorySink {
         self.bytes.as_slice()
     }
 
+    /// How many puts were made, up to the last value of a `u64`.
+    pub fn puts(&self) -> u64
+        ensures { result ≡ self.now.puts }
+    {
+        self.puts
+    }
+
+    /// How many of them failed.
+    pub fn faults(&self) -> u64
+        ensures { result ≡ self.now.faults }
+    {
+        self.faults
+    }
+
     /// Counts one more put, and says how many bytes it keeps where it is one that fails.
     fn begin_put(&mut self) -> Option<u64>
         ensures kept { result ≡ kept_by_next_put self.old }
@@ -103,6 +117,8 @@ impl Sink for MemorySink {
     ghost use Rattle.edge_io.specs.MemoryModels.{SameButRoom, kept_by_next_put, after_put};
 
     ghost written = { λ s. Some s.bytes };
+
+    ghost puts = { λ s. s.puts };
 
     ghost faults = { λ s. s.faults };
 

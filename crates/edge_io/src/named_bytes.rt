@@ -1,7 +1,9 @@
-ghost use Rattle.std.specs.Prelude.{◌≡◌, OnOk, OnErr};
+ghost use Rattle.std.specs.Prelude.{◌≡◌, ◌≢◌, ◌≤◌, ◌++◌, OnOk, OnErr, Err};
 ghost use Rattle.std.specs.Option.{option_copied};
 ghost use Rattle.std.specs.FinMap.{empty, get, insert};
+ghost use Rattle.edge_io.specs.Reading.{read_answer, Reads, GrowsByAtMost};
 
+use crate::files::ReadStop;
 use no_memory::NoMemory;
 use std::alloc::Global;
 use std::collections::BTreeMap;
@@ -71,18 +73,56 @@ impl NamedBytes {
         }
     }
 
-    /// Sets the bytes under a name, in place of those that it held before.
+    /// Appends all bytes held under `name` to `into`, where they are at most `limit` bytes. Threads may
+    /// read so from one map at once; a read isn't counted and doesn't fail.
     ///
     /// # Errors
     ///
-    /// `NoMemory` for want of memory; then the map is as before.
-    pub fn insert(&mut self, alloc: Global, name: &str, bytes: &[u8]) -> Result<(), NoMemory>
-        ensures ok { OnOk result (self.new ≡ insert self.old name.now bytes.now) }
+    /// - `NotHeld` exactly where the name isn't held, and `TooLong` exactly where more than `limit`
+    ///   bytes stand there.
+    /// - `NoMemory` for want of memory, whatever the answer would be.
+    ///
+    /// After each of these `into` holds what it held.
+    pub fn read_named(&self, name: &str, limit: u64, into: &mut Vec<u8>) -> Result<(), ReadStop>
+        ensures answer { result ≢ Err ReadStop.NoMemory →
+            Reads (read_answer (get self.now name.now) limit) result into.old.items into.new.items }
+        ensures bounded { OnOk result (GrowsByAtMost limit into.old.items into.new.items) }
+        ensures refused { OnErr result (into.new.items ≡ into.old.items) }
+        ensures not_failed { result ≢ Err ReadStop.Failed }
+    {
+        append(self.get(name), limit, into)
+    }
+
+    /// Sets the bytes under a name, in place of those that it held before. They are taken as they are,
+    /// with no copy.
+    ///
+    /// # Errors
+    ///
+    /// `NoMemory` for want of memory; then the map is as before, and the bytes are let go.
+    pub fn insert(&mut self, alloc: Global, name: &str, bytes: Vec<u8>) -> Result<(), NoMemory>
+        ensures ok { OnOk result (self.new ≡ insert self.old name.now bytes.items) }
         ensures err { OnErr result (self.new ≡ self.old) }
     {
         let key = String::from_str(alloc, name)?;
-        let bytes = Vec::from_slice(alloc, bytes)?;
         self.tree.insert(key, Blob { bytes })?;
         Ok(())
     }
+}
+
+/// Appends what a name holds, if anything, where it is at most `limit` bytes.
+fn append(held: Option<&[u8]>, limit: u64, into: &mut Vec<u8>) -> Result<(), ReadStop>
+    ensures answer { result ≢ Err ReadStop.NoMemory →
+        Reads (read_answer (option_copied held.entry) limit) result into.old.items into.new.items }
+    ensures bounded { OnOk result (GrowsByAtMost limit into.old.items into.new.items) }
+    ensures refused { OnErr result (into.new.items ≡ into.old.items) }
+    ensures not_failed { result ≢ Err ReadStop.Failed }
+{
+    let Some(bytes) = held else {
+        return Err(ReadStop::NotHeld);
+    };
+    if bytes.len() as u64 > limit {
+        return Err(ReadStop::TooLong);
+    }
+    into.extend_from_slice(bytes)?;
+    Ok(())
 }

@@ -1,22 +1,18 @@
-//! Tests of what loops do, in a crate above those that say it. Each loop is a text that the program's own reader reads, and how
-//! it ends, the inputs of its reducers and the faults that it skips are compared as a text: tables worked by hand from the
-//! language's rules.
+//! Tests of what no legal loop reaches, or no line of a result shows: steps and blocks on a store of the caller's own, loops that
+//! carry values, the items of heads and walks along them, the parts of an offence. Each loop is a text that the program's own
+//! reader reads, and what comes of it is compared as a text: tables worked by hand from the language's rules.
 #![tactic(auto)]
 
 #[cfg(test)]
 mod blocks;
 #[cfg(test)]
-mod breaks;
-#[cfg(test)]
-mod faults;
-#[cfg(test)]
-mod heads;
-#[cfg(test)]
-mod inner_heads;
-#[cfg(test)]
 mod items;
 #[cfg(test)]
-mod reducers;
+mod offences;
+#[cfg(test)]
+mod plain;
+#[cfg(test)]
+mod random;
 #[cfg(test)]
 mod run;
 #[cfg(test)]
@@ -24,8 +20,6 @@ mod scratches;
 #[cfg(test)]
 mod shown;
 #[cfg(test)]
-mod skips;
-#[cfg(test)]
-mod statements;
-#[cfg(test)]
 mod steps;
+#[cfg(test)]
+mod walks;

@@ -1,7 +1,7 @@
 //! What a step or a body run left, as a text.
 
 use loop_data::Value;
-use loop_meaning::{BodyEnd, BodyRun, Pair, Flow};
+use loop_meaning::{BodyEnd, BodyRun, Flow, Pair};
 use loop_values::Env;
 use std::alloc::{AllocError, Global};
 

@@ -53,8 +53,17 @@ pub record ThiefEnd : Type 0 where
 
 abbrev pub owner_end : DequeId → List ℕ → ℕ → ℕ → List Stretch → List Stretch → List Stretch → ℕ → ℕ → OwnerEnd
 owner_end deque lens least weight pushed taken kept stolen misses =
-    record { deque = deque; lens = lens; least = least; weight = weight; pushed = pushed; taken = taken;
-        kept = kept; stolen = stolen; misses = misses }
+    record {
+      deque = deque;
+      lens = lens;
+      least = least;
+      weight = weight;
+      pushed = pushed;
+      taken = taken;
+      kept = kept;
+      stolen = stolen;
+      misses = misses;
+    }
 
 abbrev pub thief_end : DequeId → List ℕ → ℕ → ℕ → List Stretch → ℕ → ℕ → ThiefEnd
 thief_end deque lens least weight taken stolen misses =

@@ -1,7 +1,6 @@
 //! The plain loop folded into a row.
 
 ghost use Rattle.std.specs.Prelude.{◌≡◌, ◌+◌, ◌<◌, ◌≤◌, ◌^◌, [], true, IfOk, OnOk, length};
-ghost use Rattle.loop_grammar.specs.SkippedFaults.{skips_faults};
 ghost use Rattle.loop_meaning.specs.declared.runs.Run.{Run};
 ghost use Rattle.loop_meaning.specs.Runs.{is_skipped, no_run, stop_at};
 ghost use Rattle.loop_meaning.specs.Stores.{start_store};

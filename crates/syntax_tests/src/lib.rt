@@ -1,21 +1,8 @@
-//! Tests of the crates that read and write loop files, in a crate above them all, so that a change of a test proves none of
-//! them again. What the clauses say is not tried once more; what they don't say is: tables by hand from the language's rules.
+//! Tests of the crates that read and write loop files, in a crate above them: tokens and canonical texts, which no call of the
+//! program shows. What is refused and what is accepted are cases of floop_cases.
 #![tactic(auto)]
 
 #[cfg(test)]
-mod grouping;
-#[cfg(test)]
-mod heads;
-#[cfg(test)]
-mod lines;
-#[cfg(test)]
-mod nesting;
-#[cfg(test)]
-mod programs;
-#[cfg(test)]
-mod skips;
+mod texts;
 #[cfg(test)]
 mod tokens;
-pub mod trees;
-#[cfg(test)]
-mod writer;

@@ -1,9 +1,6 @@
 //! What no clause says: the tables of bytes, words, signs and limits, by hand from the language's rules.
 
-use loop_tokens::{
-    LineTokens, Token, escapes_read_back, is_too_deep, number_of, one_lexing, text_of, tokens,
-    utf8_text, words_read_back,
-};
+use loop_tokens::{LineTokens, Token, number_of, text_of, tokens};
 use std::alloc::{AllocError, Global};
 use std::test::Fail;
 
@@ -64,31 +61,6 @@ fn cuts_lines_into_tokens(rt: HostRuntime) -> Result<(), Fail> {
         let text = shown(rt.alloc(), &line_tokens)?;
         assert_eq!(rt; text.as_str(), want, "at {line:?}");
     }
-    one_lexing();
-    Ok(())
-}
-
-#[test]
-fn keeps_the_limits(rt: HostRuntime) -> Result<(), Fail> {
-    for (piece, count, want) in [
-        ("(", 256, false),
-        ("(", 257, true),
-        (")", 300, false),
-        ("() ", 300, false),
-        ("x ", 256, false),
-        ("x ", 257, true),
-    ] {
-        let mut line = String::new(rt.alloc());
-        for _ in 0..count {
-            line.push_str(piece)?;
-        }
-        let line_tokens = tokens(rt.alloc(), line.as_str()).expect(&rt, "memory");
-        assert_eq!(rt;
-            is_too_deep(line_tokens.tokens.as_slice()),
-            want,
-            "{count} of {piece}"
-        );
-    }
     Ok(())
 }
 
@@ -106,19 +78,5 @@ fn reads_literals(rt: HostRuntime) -> Result<(), Fail> {
     }
     let text = text_of(rt.alloc(), "a\\\"b\\\\c\\nd\\té").expect(&rt, "memory");
     assert_eq!(rt; text.as_str(), "a\"b\\c\nd\té");
-    escapes_read_back();
-    words_read_back();
     Ok(())
-}
-
-#[test]
-fn names_the_byte_that_is_no_text(rt: HostRuntime) {
-    for (bytes, want) in [
-        (b"\xff".as_slice(), 1),
-        (b"ab\xc3".as_slice(), 3),
-        (b"a\xc3\xa9\xe2\x82".as_slice(), 4),
-    ] {
-        assert_eq!(rt; utf8_text(bytes).err().map(|e| e.byte), Some(want));
-    }
-    assert_eq!(rt; utf8_text(b"a\xc3\xa9").ok(), Some("aé"));
 }

@@ -4,7 +4,7 @@ ghost use Rattle.std.specs.Prelude.{◌≡◌, ◌≤◌, ◌^◌, true, length,
 ghost use Rattle.reducer_tower.specs.declared.row.Emitted.{Emitted};
 ghost use Rattle.reducer_tower.specs.Rows.{RowStands, Takes, fits_start};
 
-use super::build::{both, group, ints, pair, text, texts, truths, with_keys};
+use super::build::{both, group, ints, text};
 use super::fits::fits;
 use loop_data::{Kind, Value};
 use no_memory::NoMemory;
@@ -117,19 +117,6 @@ fn of_tower(alloc: Global, tower: u32, values: &[Value]) -> Result<Vec<Emitted>,
     Ok(inputs)
 }
 
-/// The inputs of the towers 0 and 1 in turn, as long as there are both.
-fn of_two(alloc: Global, one: Vec<Value>, other: Vec<Value>) -> Result<Vec<Emitted>, NoMemory> {
-    let mut inputs = Vec::new(alloc);
-    let mut rest = other.into_iter();
-    for value in one {
-        inputs.push(Emitted { tower: 0, value })?;
-        if let Some(value) = rest.next() {
-            inputs.push(Emitted { tower: 1, value })?;
-        }
-    }
-    Ok(inputs)
-}
-
 /// A row with one tower, whose name is `s`.
 fn row_of<H: Abort>(
     rt: &H,
@@ -165,107 +152,30 @@ fn check_start<H: Abort>(
     Ok(())
 }
 
-/// The same for the numbers from 1 to 8.
-fn check_from<H: Abort>(
-    rt: &H,
-    alloc: Global,
-    kind: &Kind,
-    start: i64,
-    with: &str,
-    without: &str,
-) -> Result<(), Fail> {
-    let inputs = ints(alloc, &[1, 2, 3, 4, 5, 6, 7, 8])?;
-    check_start(rt, alloc, kind, Value::Int(start), &inputs, with, without)
-}
-
 #[test]
-fn a_start_value_is_one_more_input_before_all_others(rt: HostRuntime) -> Result<(), Fail> {
+fn a_start_value_counts_once(rt: HostRuntime) -> Result<(), Fail> {
     let alloc = rt.alloc();
-    check_from(&rt, alloc, &Kind::Sum, 100, "136", "36")?;
-    check_from(&rt, alloc, &Kind::Prod, -1, "-40320", "40320")?;
-    check_from(&rt, alloc, &Kind::Least, 0, "0", "1")?;
-    check_from(&rt, alloc, &Kind::Least, 9, "1", "1")?;
-    check_from(&rt, alloc, &Kind::Greatest, 100, "100", "8")?;
-    check_from(&rt, alloc, &Kind::First, 5, "5", "1")?;
-    check_from(&rt, alloc, &Kind::Last, 5, "8", "8")?;
+    let inputs = ints(alloc, &[1, 2, 3, 4, 5, 6, 7, 8])?;
+    check_start(
+        &rt,
+        alloc,
+        &Kind::Sum,
+        Value::Int(100),
+        &inputs,
+        "136",
+        "36",
+    )?;
     let listed = "[0, 1, 2, 3, 4, 5, 6, 7, 8]";
     let without = "[1, 2, 3, 4, 5, 6, 7, 8]";
-    check_from(&rt, alloc, &Kind::Listed, 0, listed, without)?;
-    Ok(())
-}
-
-#[test]
-fn a_start_value_is_a_truth_value(rt: HostRuntime) -> Result<(), Fail> {
-    let alloc = rt.alloc();
-    let no = truths(alloc, &[false, false])?;
-    let yes = truths(alloc, &[true])?;
-    let (t, f) = ("true", "false");
-    check_start(&rt, alloc, &Kind::Any, Value::Bool(true), &no, t, f)?;
-    check_start(&rt, alloc, &Kind::Any, Value::Bool(false), &no, f, f)?;
-    check_start(&rt, alloc, &Kind::All, Value::Bool(false), &yes, f, t)?;
-    check_start(&rt, alloc, &Kind::All, Value::Bool(true), &[], t, t)?;
-    Ok(())
-}
-
-#[test]
-fn a_start_value_is_a_text(rt: HostRuntime) -> Result<(), Fail> {
-    let alloc = rt.alloc();
-    let words = texts(alloc, &["pear", "apple"])?;
-    let cases = [
-        (Kind::Least, "", "", "apple"),
-        (Kind::Greatest, "zebra", "zebra", "pear"),
-        (Kind::First, "a, b", "a, b", "pear"),
-        (Kind::Last, "x", "apple", "apple"),
-        (Kind::Listed, "", "[, pear, apple]", "[pear, apple]"),
-    ];
-    for (kind, start, with, without) in cases {
-        let start = text(alloc, start)?;
-        check_start(&rt, alloc, &kind, start, &words, with, without)?;
-    }
-    Ok(())
-}
-
-#[test]
-fn each_tower_of_a_row_takes_its_own_inputs(rt: HostRuntime) -> Result<(), Fail> {
-    let alloc = rt.alloc();
-    let mut row = Row::new(alloc);
-    add(&rt, alloc, &mut row, "total", &Kind::Sum, None)?;
-    add(&rt, alloc, &mut row, "by", &group(alloc, Kind::Sum)?, None)?;
-    let regions = ["north", "south", "north"];
-    let keyed = with_keys(alloc, &regions, ints(alloc, &[10, 5, 7])?)?;
-    let state = fold_row(
+    check_start(
         &rt,
         alloc,
-        &row,
-        of_two(alloc, ints(alloc, &[10, 5, 7])?, keyed)?,
-    )?;
-    check_text(&rt, alloc, &row, &state, "total", "22")?;
-    check_text(&rt, alloc, &row, &state, "by", "{north: 17, south: 5}")?;
-    Ok(())
-}
-
-#[test]
-fn a_tower_without_inputs_has_its_text(rt: HostRuntime) -> Result<(), Fail> {
-    let alloc = rt.alloc();
-    let mut row = Row::new(alloc);
-    add(&rt, alloc, &mut row, "s", &Kind::Sum, None)?;
-    add(&rt, alloc, &mut row, "m", &Kind::Greatest, None)?;
-    add(
-        &rt,
-        alloc,
-        &mut row,
-        "l",
         &Kind::Listed,
-        Some(Value::Int(3)),
-    )?;
-    let state = fold_row(&rt, alloc, &row, Vec::new(alloc))?;
-    check_text(&rt, alloc, &row, &state, "s", "0")?;
-    check_text(&rt, alloc, &row, &state, "m", "nothing")?;
-    check_text(&rt, alloc, &row, &state, "l", "[]")?;
-    let state = fold_with_starts(&rt, alloc, &row, Vec::new(alloc), Vec::new(alloc))?;
-    check_text(&rt, alloc, &row, &state, "s", "0")?;
-    check_text(&rt, alloc, &row, &state, "l", "[3]")?;
-    Ok(())
+        Value::Int(0),
+        &inputs,
+        listed,
+        without,
+    )
 }
 
 /// Checks that a row has no tower of a name.
@@ -336,65 +246,5 @@ fn a_named_tower_prints_as_explain_writes_it(rt: HostRuntime) -> Result<(), Fail
         None,
         "s: group(both(sum, count))",
     )?;
-    Ok(())
-}
-
-const REGIONS: [&str; 8] = ["r0", "r1", "r2", "r3", "r4", "r5", "r6", "r7"];
-
-/// What the loop of `try` emits for so many rows of a table of eight regions, whose numbers run from 0 to 999 again and again.
-fn emitted_by_rows(alloc: Global, rows: u32) -> Result<Vec<Emitted>, NoMemory> {
-    let mut inputs = Vec::new(alloc);
-    for k in 0..rows {
-        let n = i64::from(k % 1000);
-        let place = i64::from(k) + 1;
-        let region = text(alloc, REGIONS[k as usize % 8])?;
-        let counted = pair(alloc, Value::Int(n), Value::Nothing)?;
-        let grouped = pair(alloc, region, counted)?;
-        let best = pair(alloc, Value::Int(n), Value::Int(place))?;
-        let worst = pair(alloc, Value::Int(n), Value::Int(place))?;
-        inputs.push(Emitted {
-            tower: 0,
-            value: Value::Int(n),
-        })?;
-        inputs.push(Emitted {
-            tower: 1,
-            value: grouped,
-        })?;
-        inputs.push(Emitted {
-            tower: 2,
-            value: best,
-        })?;
-        inputs.push(Emitted {
-            tower: 3,
-            value: worst,
-        })?;
-    }
-    Ok(inputs)
-}
-
-/// The row of the loop of `try`.
-fn row_of_try<H: Abort>(rt: &H, alloc: Global) -> Result<Row, NoMemory> {
-    let mut row = Row::new(alloc);
-    let counted = both(alloc, Kind::Sum, Kind::Count)?;
-    add(rt, alloc, &mut row, "total", &Kind::Sum, None)?;
-    add(rt, alloc, &mut row, "groups", &group(alloc, counted)?, None)?;
-    add(rt, alloc, &mut row, "best", &Kind::GreatestAt, None)?;
-    add(rt, alloc, &mut row, "worst", &Kind::LeastAt, None)?;
-    Ok(row)
-}
-
-const GROUPS: &str = "{r0: (15500000, 31250), r1: (15531250, 31250), r2: (15562500, 31250), \
-r3: (15593750, 31250), r4: (15625000, 31250), r5: (15656250, 31250), r6: (15687500, 31250), \
-r7: (15718750, 31250)}";
-
-#[test]
-fn a_million_inputs_of_the_row_of_try(rt: HostRuntime) -> Result<(), Fail> {
-    let alloc = rt.alloc();
-    let row = row_of_try(&rt, alloc)?;
-    let state = fold_row(&rt, alloc, &row, emitted_by_rows(alloc, 250000)?)?;
-    check_text(&rt, alloc, &row, &state, "total", "124875000")?;
-    check_text(&rt, alloc, &row, &state, "groups", GROUPS)?;
-    check_text(&rt, alloc, &row, &state, "best", "999 at 1000")?;
-    check_text(&rt, alloc, &row, &state, "worst", "0 at 1")?;
     Ok(())
 }

@@ -6,8 +6,6 @@ use Rattle.edge_io.proofs.named_bytes.NamedBytes.insert.Goals as goal
 pub returns-clause-ok : goal.returns-clause-ok
 returns-clause-ok c =
     let key : string_bytes c.in_ok-key.key ≡ c.args.name.now = search rules in
-    let value : c.in_ok-bytes.bytes.items ≡ c.args.bytes.now = search rules in
-    insert-texts c.in_ok-key.key c.in_ok-bytes.bytes.items c.self.inside.tree c.insert.new.self c.in_ok-insert.ensures.updates
-    ∙ ap (λ b. insert (texts c.self.inside.tree) b c.in_ok-bytes.bytes.items) key
-    ∙ ap (λ v. insert (texts c.self.inside.tree) c.args.name.now v) value
-    ∙ ap (λ m. insert m c.args.name.now c.args.bytes.now) c.self.view_is
+    insert-texts c.in_ok-key.key c.args.bytes.items c.self.inside.tree c.insert.new.self c.in_ok-insert.ensures.updates
+    ∙ ap (λ b. insert (texts c.self.inside.tree) b c.args.bytes.items) key
+    ∙ ap (λ m. insert m c.args.name.now c.args.bytes.items) c.self.view_is

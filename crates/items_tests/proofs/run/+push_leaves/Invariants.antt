@@ -1,5 +1,0 @@
-use Rattle.items_tests.proofs.run.+push_leaves.Given as goal
-
--- how many halvings are left
-abbrev pub decreases-push_leaves : goal.decreases-push_leaves
-decreases-push_leaves l = l.depth

@@ -1,0 +1,2 @@
+pub mod TreesTried
+pub mod Worked
