@@ -1,7 +1,12 @@
 //! What holds of legal loops, for readers and for callers' proofs: each function is empty, and its contract is the law.
 
 ghost use Rattle.carries_nothing.specs.Blocks.{BlocksKeepAlike};
-ghost use Rattle.carries_nothing.specs.Laws.{BodiesAreSame, InnerItemsKeep, LastingNamesStay, LegalCarriesNothing, OthersAreUnseen, PartsEndAsWhole, PartsLeaveAlike, RangesAreSame, ReachedIsAlike, ReachedRunsAsStart, ReachedStepsAsStart, RunningSumCarries, RunningSumIsIllegal, RunsReachStores, SometimesWrittenCarries, SometimesWrittenIsIllegal, SpelledNamesLast, StartIsStore, StepsAreSame, StepsLeaveStores, StopIsItsItems, StopsLeftmost};
+ghost use Rattle.carries_nothing.specs.Laws.{BodiesAreSame, InnerItemsKeep, LastingNamesStay, LegalCarriesNothing};
+ghost use Rattle.carries_nothing.specs.Laws.{OthersAreUnseen, PartsEndAsWhole, PartsLeaveAlike, RangesAreSame};
+ghost use Rattle.carries_nothing.specs.Laws.{ReachedIsAlike, ReachedRunsAsStart, ReachedStepsAsStart, RunningSumCarries};
+ghost use Rattle.carries_nothing.specs.Laws.{RunningSumIsIllegal, RunsReachStores, SometimesWrittenCarries};
+ghost use Rattle.carries_nothing.specs.Laws.{SometimesWrittenIsIllegal, SpelledNamesLast, StartIsStore, StepsAreSame};
+ghost use Rattle.carries_nothing.specs.Laws.{StepsLeaveStores, StopIsItsItems, StopsLeftmost};
 
 /// From two body runs that agree but for names that may differ, a block none of whose paths reaches a read of one of these does
 /// the same. Where it goes on, the names that may still differ are those that aren't surely written.

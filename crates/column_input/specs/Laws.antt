@@ -15,17 +15,20 @@ RecordsTakeTheWholeText = (bytes : List ℕ) → AreRecords default_config st.St
 
 -- a table that was read is whole
 abbrev pub TablesAreWhole : Type 0
-TablesAreWhole = (first : List ℕ) (further : List (List ℕ)) (table : Contents) → table_of (first ∷ further) ≡ Ok table → IsWhole table
+TablesAreWhole = (first : List ℕ) (further : List (List ℕ)) (table : Contents) →
+    table_of (first ∷ further) ≡ Ok table → IsWhole table
 
 -- it holds the files that it was read from
 abbrev pub TablesHoldTheirFiles : Type 0
 TablesHoldTheirFiles =
-    (first : List ℕ) (further : List (List ℕ)) (table : Contents) → table_of (first ∷ further) ≡ Ok table → HoldsFiles table (first ∷ further)
+    (first : List ℕ) (further : List (List ℕ)) (table : Contents) →
+    table_of (first ∷ further) ≡ Ok table → HoldsFiles table (first ∷ further)
 
 -- the table of one more file is the table with that file appended
 abbrev pub OneMoreFileIsAppended : Type 0
 OneMoreFileIsAppended =
-    (files : List (List ℕ)) (more : List ℕ) (table : Contents) → table_of files ≡ Ok table → table_of (files ++ more ∷ []) ≡ appended table more
+    (files : List (List ℕ)) (more : List ℕ) (table : Contents) →
+    table_of files ≡ Ok table → table_of (files ++ more ∷ []) ≡ appended table more
 
 -- the first refusal of the first file that has one stays, whatever files follow
 abbrev pub TheFirstRefusalStays : Type 0

@@ -1,7 +1,8 @@
 -- The first refusal of a file that is read into a table.
 -- Source: the limits and the order of refusals are this project's.
 use Rattle.std.specs.List.{enumerate_from, filter_map, list_all}
-use Rattle.std.specs.Prelude.{◌==◌, ◌+◌, ℕ, List, [], ◌∷◌, not, Option, Some, None, if◌then◌else◌, length, nat_lt, slice_get, sum_by, take}
+use Rattle.std.specs.Prelude.{◌==◌, ◌+◌, ℕ, List, [], ◌∷◌, not, Option, Some, None, if◌then◌else◌, length, nat_lt, slice_get}
+use Rattle.std.specs.Prelude.{sum_by, take}
 use Rattle.std.specs.Str.{bytes_eq, is_utf8}
 use Rattle.column_input.specs.Limits.{max_columns}
 use Rattle.column_input.specs.Records.{Fields}

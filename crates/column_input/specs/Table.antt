@@ -1,6 +1,7 @@
 -- The table of a list of files under one header, and the first refusal of the first file that has one.
 -- Source: RFC 4180 for records and the header; several files under one header are this project's.
-use Rattle.std.specs.Prelude.{◌==◌, if◌then◌else◌, ◌+◌, ◌*◌, ◌++◌, ℕ, List, [], ◌∷◌, Option, Some, None, Result, Ok, Err, length, map, option_map, position, slice_index_or, sum_by}
+use Rattle.std.specs.Prelude.{◌==◌, if◌then◌else◌, ◌+◌, ◌*◌, ◌++◌, ℕ, List, [], ◌∷◌, Option, Some, None, Result, Ok, Err}
+use Rattle.std.specs.Prelude.{length, map, option_map, position, slice_index_or, sum_by}
 use Rattle.std.specs.Str.{bytes_eq}
 use Rattle.column_input.specs.Limits.{max_fields}
 use Rattle.column_input.specs.Records.{Fields, records_of}
@@ -46,11 +47,13 @@ first_table_within limit bytes = unless_refused (first_file_refusal limit (recor
 -- a table of some files with a further one, where all files may have `limit` fields
 abbrev pub further_table_within : ℕ → Contents → List ℕ → Result Contents TableRefusal
 further_table_within limit table bytes =
-    unless_refused (further_file_refusal limit (fields_in table) table.header (records_of bytes)) (further_contents table (records_of bytes))
+    unless_refused (further_file_refusal limit (fields_in table) table.header (records_of bytes))
+    (further_contents table (records_of bytes))
 
 -- a table with one more file, which may be its first
 abbrev pub appended_within : ℕ → Contents → List ℕ → Result Contents TableRefusal
-appended_within limit table bytes = if table.files == 0 then first_table_within limit bytes else further_table_within limit table bytes
+appended_within limit table bytes =
+    if table.files == 0 then first_table_within limit bytes else further_table_within limit table bytes
 
 -- a table with one more file, where all files may have `max_fields` fields
 abbrev pub appended : Contents → List ℕ → Result Contents TableRefusal

@@ -1,6 +1,7 @@
 //! The rows of one file.
 
-ghost use Rattle.std.specs.Prelude.{◌≡◌, ◌≢◌, ◌+◌, ◌*◌, ◌<◌, ◌≤◌, ◌++◌, ◌∷◌, [], IfOk, OnOk, MatchResult, Some, Err, length, slice_get, sum_by};
+ghost use Rattle.std.specs.Prelude.{◌≡◌, ◌≢◌, ◌+◌, ◌*◌, ◌<◌, ◌≤◌, ◌++◌, ◌∷◌, [], IfOk, OnOk, MatchResult, Some, Err, length};
+ghost use Rattle.std.specs.Prelude.{slice_get, sum_by};
 ghost use Rattle.csv.specs.Records.{fields_of};
 ghost use Rattle.column_input.specs.Chunk.{cell_at, grid};
 ghost use Rattle.column_input.specs.Limits.{max_columns, max_fields};

@@ -1,6 +1,7 @@
 //! Laws of the definitions, for those who build on them.
 
-ghost use Rattle.column_input.specs.Laws.{DifferNowhereWhereEqual, OneMoreFileIsAppended, RecordsTakeTheWholeText, TablesAreWhole, TablesHoldTheirFiles, TheFirstRefusalStays};
+ghost use Rattle.column_input.specs.Laws.{DifferNowhereWhereEqual, OneMoreFileIsAppended, RecordsTakeTheWholeText};
+ghost use Rattle.column_input.specs.Laws.{TablesAreWhole, TablesHoldTheirFiles, TheFirstRefusalStays};
 
 /// The records of a text are all that `csv` reads of it, one after another, until what is left of the text has none.
 pub fn records_take_the_whole_text()
@@ -17,8 +18,8 @@ pub fn tables_hold_their_files()
     ensures { TablesHoldTheirFiles }
 {}
 
-/// The table of one more file is the table with that file appended: so one [`crate::Table::append`] for each file, to a table that
-/// was empty, gives the table of all.
+/// The table of one more file is the table with that file appended: so one [`crate::Table::append`] for each file, to a
+/// table that was empty, gives the table of all.
 pub fn one_more_file_is_appended()
     ensures { OneMoreFileIsAppended }
 {}

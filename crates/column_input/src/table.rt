@@ -1,9 +1,11 @@
 //! A table.
 
-ghost use Rattle.std.specs.Prelude.{◌≡◌, ◌≢◌, ◌+◌, ◌-◌, ◌<◌, ◌≤◌, ◌∷◌, [], Ok, Err, Some, IfOk, OnOk, IfErr, OnErr, IfSome, IsSome, Contains, ◌↔◌, length, slice_get};
+ghost use Rattle.std.specs.Prelude.{◌≡◌, ◌≢◌, ◌+◌, ◌-◌, ◌<◌, ◌≤◌, ◌∷◌, [], Ok, Err, Some, IfOk, OnOk, IfErr, OnErr, IfSome};
+ghost use Rattle.std.specs.Prelude.{IsSome, Contains, ◌↔◌, length, slice_get};
 ghost use Rattle.column_input.specs.Chunk.{cell_at};
 ghost use Rattle.column_input.specs.Limits.{max_fields};
-ghost use Rattle.column_input.specs.Table.{appended, appended_within, column_of, contents, further_table_within, table_of, table_within};
+ghost use Rattle.column_input.specs.Table.{appended, appended_within, column_of, contents, further_table_within, table_of};
+ghost use Rattle.column_input.specs.Table.{table_within};
 ghost use Rattle.column_input.specs.declared.refusal.TableRefusal.TheVariants as refused;
 
 use crate::MAX_FIELDS;
@@ -93,9 +95,9 @@ impl Table {
         })
     }
 
-    /// Reads one more file into the table. The first makes the table, as [`Table::read`] does. Of a further one the rows are those
-    /// before, followed by the file's records after its header, which has to be the table's. One byte-order mark is dropped at
-    /// the file's very start.
+    /// Reads one more file into the table. The first makes the table, as [`Table::read`] does. Of a further one the rows are
+    /// those before, followed by the file's records after its header, which has to be the table's. One byte-order mark is
+    /// dropped at the file's very start.
     ///
     /// # Errors
     ///

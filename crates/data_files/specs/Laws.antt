@@ -12,7 +12,8 @@ abbrev pub HoldShort : Held → List (List ℕ) → List (List ℕ) → Type 0
 HoldShort held [] [] = Unit {0}
 HoldShort held [] (bytes ∷ files) = ⊥
 HoldShort held (name ∷ names) [] = ⊥
-HoldShort held (name ∷ names) (bytes ∷ files) = (get held name ≡ Some bytes) × (length bytes ≤ data_file_limit) × HoldShort held names files
+HoldShort held (name ∷ names) (bytes ∷ files) =
+    (get held name ≡ Some bytes) × (length bytes ≤ data_file_limit) × HoldShort held names files
 
 -- the first so many of the files are one table, and with the next one they are refused for this reason
 abbrev pub IsRefusedAt : List (List ℕ) → ℕ → TableRefusal → Type 0

@@ -1,7 +1,8 @@
 -- The table of a call's data files, or why there is none.
 -- Source: this project.
 use Rattle.std.specs.Borrow.{Bor}
-use Rattle.std.specs.Prelude.{ℕ, ◌+◌, ◌==◌, nat_le, if◌then◌else◌, List, [], ◌∷◌, length, map, Option, Some, None, Result, Ok, Err}
+use Rattle.std.specs.Prelude.{ℕ, ◌+◌, ◌==◌, nat_le, if◌then◌else◌, List, [], ◌∷◌, length, map, Option, Some, None, Result}
+use Rattle.std.specs.Prelude.{Ok, Err}
 use Rattle.std.specs.FinMap.{get}
 use Rattle.edge_io.specs.Reading.{Held}
 use Rattle.column_input.specs.Table.{Contents, contents, appended}
@@ -34,7 +35,8 @@ told which (Err why) = Err (of_table which why)
 abbrev pub file_taken : DataFile → Contents → Option (List ℕ) → Result Contents DataStop
 file_taken which table None = Err stop.NotHeld
 file_taken which table (Some bytes) =
-    if nat_le (length bytes) data_file_limit then told which (appended table bytes) else Err (stop.Refused (refusal.TooLong which))
+    if nat_le (length bytes) data_file_limit then told which (appended table bytes)
+    else Err (stop.Refused (refusal.TooLong which))
 
 -- which file of so many it is that so many stand before: the only one, or one of several by its number
 abbrev pub file_at : ℕ → ℕ → DataFile

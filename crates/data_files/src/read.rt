@@ -67,8 +67,8 @@ fn file_at(count: usize, before: usize) -> DataFile
     }
 }
 
-/// The table of the data files of these names, which may be none; each is read once, in order, and taken in before the next is read,
-/// up to the first that can't be taken.
+/// The table of the data files of these names, which may be none; each is read once, in order, and taken in before the next
+/// is read, up to the first that can't be taken.
 ///
 /// # Errors
 ///

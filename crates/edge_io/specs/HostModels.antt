@@ -9,7 +9,8 @@ pub record CallCounts : Type 0 where
   pub faults : ℕ
 
 abbrev pub counts_code : Coded CallCounts
-counts_code = code_by (ℕ × ℕ) (coded× coded_ℕ coded_ℕ) (λ m. (m.calls, m.faults)) (λ p. record { calls = p.0; faults = p.1 }) (λ _. refl)
+counts_code =
+    code_by (ℕ × ℕ) (coded× coded_ℕ coded_ℕ) (λ m. (m.calls, m.faults)) (λ p. record { calls = p.0; faults = p.1 }) (λ _. refl)
 
 -- no call was made
 abbrev pub no_calls : CallCounts

@@ -1,4 +1,5 @@
-ghost use Rattle.std.specs.Prelude.{◌≡◌, ◌+◌, ◌≤◌, ◌++◌, ◌↔◌, ℕ, [], List, length, take, OnOk, OnErr, IsErr, IsSome, Option, Some, None};
+ghost use Rattle.std.specs.Prelude.{◌≡◌, ◌+◌, ◌≤◌, ◌++◌, ◌↔◌, ℕ, [], List, length, take, OnOk, OnErr, IsErr, IsSome, Option};
+ghost use Rattle.std.specs.Prelude.{Some, None};
 
 use crate::calls::CallMap;
 use crate::sink::{Sink, SinkFailed};
@@ -37,7 +38,8 @@ impl Model for MemorySink {
 
 impl MemorySink {
     ghost use Rattle.edge_io.specs.Counts.{last_count};
-    ghost use Rattle.edge_io.specs.MemoryModels.{new_sink, with_failing_put, SameButRoom, kept_by_next_put, after_begun_put, with_piece};
+    ghost use Rattle.edge_io.specs.MemoryModels.{new_sink, with_failing_put, SameButRoom, kept_by_next_put, after_begun_put};
+    ghost use Rattle.edge_io.specs.MemoryModels.{with_piece};
 
     /// Nothing written, no room yet, and no put that is named to fail.
     pub fn new(alloc: Global) -> MemorySink

@@ -1,6 +1,7 @@
 -- Laws of heads: when they are refused, and which items their parts have.
 -- Source: this project.
-use Rattle.std.specs.Prelude.{◌≡◌, ◌≢◌, ◌≤◌, ◌<◌, ◌↔◌, ◌⊎◌, ◌+◌, ◌-◌, ℕ, true, List, ◌++◌, length, map, Option, Some, None, IsSome, All, Contains, slice_get, ℤ, pos}
+use Rattle.std.specs.Prelude.{◌≡◌, ◌≢◌, ◌≤◌, ◌<◌, ◌↔◌, ◌⊎◌, ◌+◌, ◌-◌, ℕ, true, List, ◌++◌, length, map, Option, Some, None}
+use Rattle.std.specs.Prelude.{IsSome, All, Contains, slice_get, ℤ, pos}
 use Rattle.number_ranges.specs.Ranges.{range_count, most_items}
 use Rattle.splittable.specs.Places.{item_count}
 use Rattle.splittable.specs.Laws.{IsShortestExcess}

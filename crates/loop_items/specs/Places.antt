@@ -1,6 +1,7 @@
 -- The values of several lists at places, counted from 1, one place for each list.
 -- Source: this project, over the places of shapes in splittable.
-use Rattle.std.specs.Prelude.{◌≡◌, ℕ, ◌-◌, ◌+◌, ◌≤◌, nat_lt, if◌then◌else◌, List, [], ◌∷◌, length, Option, Some, None, option_and_then, slice_get}
+use Rattle.std.specs.Prelude.{◌≡◌, ℕ, ◌-◌, ◌+◌, ◌≤◌, nat_lt, if◌then◌else◌, List, [], ◌∷◌, length, Option, Some, None}
+use Rattle.std.specs.Prelude.{option_and_then, slice_get}
 use Rattle.splittable.specs.Places.{places_on_four}
 use Rattle.loop_data.specs.declared.value.Value.{Value}
 use Rattle.loop_items.specs.Heads.{Head}

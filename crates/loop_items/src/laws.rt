@@ -1,6 +1,7 @@
 //! What follows from the definitions, each the contract of a function that does nothing, and what threads share.
 
-ghost use Rattle.loop_items.specs.Laws.{AxesCountItems, NeighboursHaveItems, NoneIsRefused, PartsHaveItemsOfPlaces, RefusalsHaveReasons, RefusalsHaveTheLine, WholeHasAllItems};
+ghost use Rattle.loop_items.specs.Laws.{AxesCountItems, NeighboursHaveItems, NoneIsRefused, PartsHaveItemsOfPlaces};
+ghost use Rattle.loop_items.specs.Laws.{RefusalsHaveReasons, RefusalsHaveTheLine, WholeHasAllItems};
 
 use crate::{HeadItems, Walk};
 use loop_data::laws::is_shared;

@@ -1,6 +1,7 @@
 -- Which items stop a loop, each looked at by itself, and the leftmost of them.
 -- Source: this project.
-use Rattle.std.specs.Prelude.{◌≡◌, ◌≤◌, ◌-◌, ◌+◌, ℕ, Bool, true, false, not, if◌then◌else◌, List, [], ◌∷◌, Option, Some, None, slice_get}
+use Rattle.std.specs.Prelude.{◌≡◌, ◌≤◌, ◌-◌, ◌+◌, ℕ, Bool, true, false, not, if◌then◌else◌, List, [], ◌∷◌, Option, Some}
+use Rattle.std.specs.Prelude.{None, slice_get}
 use Rattle.loop_data.specs.declared.value.Value.{Value}
 use Rattle.loop_grammar.specs.SkippedFaults.{skips_faults}
 use Rattle.loop_grammar.specs.declared.tree.ProgramTree.{ProgramTree}

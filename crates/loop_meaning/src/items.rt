@@ -6,7 +6,8 @@ ghost use Rattle.std.specs.FinMap.{get};
 ghost use Rattle.number_ranges.specs.Ranges.{items_from, range_count, range_item};
 ghost use Rattle.column_input.specs.Table.{column_of};
 ghost use Rattle.loop_data.specs.declared.value.Value.TheVariants as value;
-ghost use Rattle.loop_meaning.specs.Items.{all_items, axis_items, column_items, combinations, head_items, in_front, items_of, numbers, side_by_side, sources, steps_items};
+ghost use Rattle.loop_meaning.specs.Items.{all_items, axis_items, column_items, combinations, head_items, in_front};
+ghost use Rattle.loop_meaning.specs.Items.{items_of, numbers, side_by_side, sources, steps_items};
 
 use crate::bounds::{number_of, step_number};
 use crate::stores::variables;

@@ -1,7 +1,12 @@
 //! What holds of the definitions, for readers and for callers' proofs: each function is empty, and its contract is the law.
 
 ghost use Rattle.loop_meaning.specs.Assigned.{OthersStay};
-ghost use Rattle.loop_meaning.specs.Laws.{AxesAreCounted, BlocksEmitBehind, FaultStopsHaveKinds, FaultsHaveKinds, HeadsEmitBehind, InputsAreFew, ItemsAreCounted, LeftmostStops, NoneStops, NoneStopsBefore, NothingFollowsAStop, ProductHeads, ProductHoldsDigits, RunsEmitFew, RunsFollowEachOther, RunsStopLeftmost, SkipsAtMostItems, SkipsNone, StepsEmitAtMost, StepsEmitFew, StopsAmongItems, StopsCutTheList, StoreStays, ZipAxes, ZipHeads, ZipHoldsItems};
+ghost use Rattle.loop_meaning.specs.Laws.{AxesAreCounted, BlocksEmitBehind, FaultStopsHaveKinds, FaultsHaveKinds};
+ghost use Rattle.loop_meaning.specs.Laws.{HeadsEmitBehind, InputsAreFew, ItemsAreCounted, LeftmostStops, NoneStops};
+ghost use Rattle.loop_meaning.specs.Laws.{NoneStopsBefore, NothingFollowsAStop, ProductHeads, ProductHoldsDigits};
+ghost use Rattle.loop_meaning.specs.Laws.{RunsEmitFew, RunsFollowEachOther, RunsStopLeftmost, SkipsAtMostItems, SkipsNone};
+ghost use Rattle.loop_meaning.specs.Laws.{StepsEmitAtMost, StepsEmitFew, StopsAmongItems, StopsCutTheList, StoreStays};
+ghost use Rattle.loop_meaning.specs.Laws.{ZipAxes, ZipHeads, ZipHoldsItems};
 
 /// The run over two lists is the run over the first and, where that ran to its end, then over the second. What follows a stop
 /// doesn't count, and a run that stops is the run up to its stop.

@@ -7,7 +7,8 @@ ghost use Rattle.std.specs.Str.{bytes_eq};
 ghost use Rattle.loop_data.specs.declared.statement.Statement.{Statement};
 ghost use Rattle.loop_data.specs.declared.statement.Branch.{Branch};
 ghost use Rattle.loop_meaning.specs.Chosen.{with_name};
-ghost use Rattle.loop_meaning.specs.Reducers.{all_sites, sites_in, sites_in_branch, sites_of, each_once, start_among, emitted_under, inputs_among, named_among, end_of_run, plain_end};
+ghost use Rattle.loop_meaning.specs.Reducers.{all_sites, sites_in, sites_in_branch, sites_of, each_once, start_among};
+ghost use Rattle.loop_meaning.specs.Reducers.{emitted_under, inputs_among, named_among, end_of_run, plain_end};
 
 use crate::runs::loop_run;
 use crate::stores::start_store;

@@ -6,7 +6,9 @@ ghost use Rattle.loop_data.specs.ValueParts.{as_bool, parts_of};
 ghost use Rattle.loop_values.specs.Values.{value_of};
 ghost use Rattle.tower_inputs.specs.Inputs.{input_of};
 ghost use Rattle.loop_meaning.specs.Chosen.{unless};
-ghost use Rattle.loop_meaning.specs.Statements.{Action, faulting, emitting, naming, with_parts, with_pattern, matching, keeping_something, evaluating, is_going, block_run, branch_run, first_true, statement_run};
+ghost use Rattle.loop_meaning.specs.Statements.{Action, faulting, emitting, naming, with_parts, with_pattern, matching};
+ghost use Rattle.loop_meaning.specs.Statements.{keeping_something, evaluating, is_going, block_run, branch_run, first_true};
+ghost use Rattle.loop_meaning.specs.Statements.{statement_run};
 
 use crate::{BodyRun, Flow, Pair};
 use loop_data::{Branch, Expr, Many, Statement, TextValue, TowerExpr, Value};

@@ -1,6 +1,7 @@
 -- Words as lists of bytes: what they name, and which values they give.
 -- Source: this project.
-use Rattle.std.specs.Prelude.{ℕ, Bool, List, [], ◌∷◌, ◌==◌, map, find, bytes_eq, is_none, Option, Some, None, if◌then◌else◌, String, string_bytes}
+use Rattle.std.specs.Prelude.{ℕ, Bool, List, [], ◌∷◌, ◌==◌, map, find, bytes_eq, is_none, Option, Some, None, if◌then◌else◌}
+use Rattle.std.specs.Prelude.{String, string_bytes}
 use Rattle.std.specs.Option.{option_map}
 use Rattle.program_words.specs.declared.setting.Setting.{Setting}
 use Rattle.program_words.specs.Settings.{setting_name}

@@ -1,8 +1,8 @@
 //! The words of the program: a command, and its settings as `name=value`.
 //!
 //! [`request_of`] reads them: it gives a [`Request`], or the first [`Refusal`]. Which commands there are, which settings each has
-//! and what a value must be stands in two tables, [`Command`] and [`Setting`]: a further command is one more variant with its rows,
-//! and so is a further setting.
+//! and what a value must be stands in two tables, [`Command`] and [`Setting`]: a further command is one more variant with
+//! its rows, and so is a further setting.
 #![tactic(auto)]
 
 mod command;

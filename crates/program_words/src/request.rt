@@ -6,7 +6,8 @@ ghost use Rattle.program_words.specs.Settings.{setting_name};
 ghost use Rattle.program_words.specs.Commands.{required_of};
 ghost use Rattle.program_words.specs.Refusals.{refusal_text};
 ghost use Rattle.program_words.specs.Words.{texts, cut, value_at, value_in, setting_named, first_missing};
-ghost use Rattle.program_words.specs.Requests.{value_refusal, name_refusal, word_refusal, first_refusal, no_word, no_command, checked, command_request, request_of};
+ghost use Rattle.program_words.specs.Requests.{value_refusal, name_refusal, word_refusal, first_refusal, no_word};
+ghost use Rattle.program_words.specs.Requests.{no_command, checked, command_request, request_of};
 ghost use Rattle.program_words.specs.Views.{request_seen, answer_seen, pair_seen};
 
 use crate::command::command_named;
@@ -194,8 +195,9 @@ fn command_request(
 
 /// The request that the words are to this top call, or their first refusal.
 ///
-/// The first word is the command, each further one a setting `name=value`, cut at its first `=`, in any order, each name once. It is
-/// refused where there is no word, where the first isn't a command that the call serves; then for the first further word that has no
+/// The first word is the command, each further one a setting `name=value`, cut at its first `=`, in any order, each name
+/// once. It is refused where there is no word, where the first isn't a command that the call serves; then for the first
+/// further word that has no
 /// `=`, a name that the command doesn't have, a name that was given before, or a value that breaks its rule; then for the first
 /// setting that the command must be given and isn't.
 pub fn request_of(call: Call, words: &[String]) -> Result<Request<'_>, Refusal<'_>>

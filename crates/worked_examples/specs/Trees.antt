@@ -21,7 +21,8 @@ use Rattle.loop_grammar.specs.Nesting.{on}
 use Rattle.loop_grammar.specs.declared.tree.ProgramTree.{ProgramTree}
 use Rattle.loop_grammar.specs.Texts.{SpellsProgram}
 use Rattle.loop_grammar.specs.TreeLines.{tree_lines}
-use Rattle.loop_grammar.specs.WellFormed.{is_name, is_literal, is_expr, is_form, is_within, are_lines, all_fit, statement_fits, most_inside, is_well_formed}
+use Rattle.loop_grammar.specs.WellFormed.{is_name, is_literal, is_expr, is_form, is_within, are_lines, all_fit}
+use Rattle.loop_grammar.specs.WellFormed.{statement_fits, most_inside, is_well_formed}
 use Rattle.loop_writer.specs.Programs.{canonical_text}
 
 abbrev pub int : ℕ → Expr

@@ -1,6 +1,7 @@
 //! Trees written by hand, tried against the test of well-formed trees by computing it.
 
-ghost use Rattle.worked_examples.specs.Trees.{PassesWhole, RefusesNames, RefusesLiterals, RefusesParts, RefusesOrder, RefusesBranches, RefusesDepth};
+ghost use Rattle.worked_examples.specs.Trees.{PassesWhole, RefusesNames, RefusesLiterals, RefusesParts, RefusesOrder};
+ghost use Rattle.worked_examples.specs.Trees.{RefusesBranches, RefusesDepth};
 
 /// A tree written by hand passes the test, so that it is a program; and for each point of the test one is refused.
 pub fn trees_tried()
