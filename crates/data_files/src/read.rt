@@ -67,8 +67,8 @@ fn file_at(count: usize, before: usize) -> DataFile
     }
 }
 
-/// The table of the data files of these names, which may be none; each is read once, in order, and taken in before the next
-/// is read, up to the first that can't be taken.
+/// The table of the data files of these names, which may be none: one read for each name, in order, and what it gives is taken in
+/// before the next, up to the first that can't be taken.
 ///
 /// # Errors
 ///
@@ -82,7 +82,7 @@ pub fn read_data<F: Files>(alloc: Global, names: &[&str], files: &mut F) -> Resu
     ensures table { IfSome (F.held files.old) (λ held. result ≢ Err stop.Failed → result ≢ Err stop.NoMemory →
         result ≡ data_table (names_seen names.now) held) }
 
-    // Each file is read once, where there is a table, and else none more than once.
+    // There is one read for each name where there is a table, and else no more.
     ensures each_read { OnOk result (F.reads files.new ≡ counted_times (length names.now) (F.reads files.old)) }
     ensures reads { F.reads files.new ≤ F.reads files.old + length names.now }
 

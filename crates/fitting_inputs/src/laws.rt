@@ -35,7 +35,8 @@ pub fn legal_steps_emit_fitting()
     ensures { LegalStepsFit }
 {}
 
-/// All that the run of a legal loop over the items of its head emits fits the towers of the reducers.
+/// All that the run of a legal loop over the items of its head, at most 4,294,967,296, emits from the start and place 1 fits the
+/// towers of the reducers.
 pub fn legal_runs_emit_fitting()
     ensures { LegalRunsFit }
 {}
@@ -55,8 +56,8 @@ pub fn legal_expressions_have_kinds()
     ensures { LegalExpressionsHaveKinds }
 {}
 
-/// No expression that the run of a legal loop over its items, or over a stretch of them, may evaluate asks for a default: the
-/// evaluator without defaults gives its value or its fault.
+/// No expression that the run of a legal loop over its items, at most 4,294,967,296, or over a stretch of them, may evaluate asks
+/// for a default: the evaluator without defaults gives its value or its fault.
 pub fn legal_runs_ask_for_no_default()
     ensures { LegalRunsAreStrict }
 {}
