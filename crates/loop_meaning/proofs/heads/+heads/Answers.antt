@@ -4,6 +4,7 @@ use Rattle.std.specs.Int.{w64}
 use Rattle.std.proofs.lemmas.Int.{to_z-of_z}
 use Rattle.number_ranges.specs.Ranges.{range_item}
 use Rattle.loop_values.specs.InnerItems.{items_of}
+use Rattle.loop_meaning.specs.declared.steps.BodyRun.{BodyRun}
 use Rattle.loop_meaning.specs.Steps.{for_each, for_item, inner_runs}
 use Rattle.loop_meaning.proofs.HeadLemmas.{taken, passed, all_done, one_head, then_ok, items_told}
 use Rattle.loop_meaning.proofs.heads.+heads.Goals as goal
@@ -22,19 +23,25 @@ for_each-loop-before-preserved t c =
           let item : FitsSigned w64 w.item-item.result = search rules in
           let same : k + 1 - 1 ≡ k = omega arith in
           let is : w.for_item.new.run ≡ for_item program name action (range_item range.first range.step k) c.loop-before.run =
-          w.in_ok-for_item.ensures ∙ ap (λ n. for_item program name action n c.loop-before.run) (to_z-of_z w64 _ item ∙ w.item-item.ensures.value ∙ ap (range_item range.first range.step) same) in
+          w.in_ok-for_item.ensures.run ∙ ap (λ n. for_item program name action n c.loop-before.run) (to_z-of_z w64 _ item ∙ w.item-item.ensures.value ∙ ap (range_item range.first range.step) same) in
           let next = taken program name action range k c.loop-before.run w.for_item.new.run within (sym c.is_going.ensures ∙ w.if-is_going.true) is in
-          ap (for_each program name (drop (k + 1) (items_of range)) action) w.run-is ∙ next ∙ c.loop-before.invariant
+          record {
+            rest = ap (for_each program name (drop (k + 1) (items_of range)) action) w.run-is ∙ next ∙ c.loop-before.invariant.rest;
+            outer = w.outer-is ∙ w.in_ok-for_item.ensures.outer ∙ sym (ap (λ (r : BodyRun). r.names) w.run-is);
+          }
       | for_each-else-is_going w ↦
           let next = passed program name action range k c.loop-before.run within (sym c.is_going.ensures ∙ w.if-is_going.false) in
-          ap (for_each program name (drop (k + 1) (items_of range)) action) w.run-is ∙ next ∙ c.loop-before.invariant
+          record {
+            rest = ap (for_each program name (drop (k + 1) (items_of range)) action) w.run-is ∙ next ∙ c.loop-before.invariant.rest;
+            outer = w.outer-is ∙ c.loop-before.invariant.outer ∙ sym (ap (λ (r : BodyRun). r.names) w.run-is);
+          }
     ]
 
 pub for_each-returns : goal.for_each-returns
 for_each-returns t c =
     let action = inner_runs c.args.program.now c.args.heads.now (c.args.width * c.args.range.count) in
     let ended : c.args.range.count ≤ c.loop-before.before = omega arith in
-    sym (all_done c.args.program.now c.args.head.now.name action c.args.range c.loop-before.before c.loop-before.run ended) ∙ c.loop-before.invariant
+    sym (all_done c.args.program.now c.args.head.now.name action c.args.range c.loop-before.before c.loop-before.run ended) ∙ c.loop-before.invariant.rest
 
 pub inner_runs-returns-in-Ok : goal.inner_runs-returns-in-Ok
 inner_runs-returns-in-Ok t c =
