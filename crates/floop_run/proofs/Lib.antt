@@ -2,6 +2,7 @@ mod AnswerLaws
 mod AnswerLemmas
 mod LegalLemmas
 mod LineLemmas
+mod OutputLemmas
 mod PutLemmas
 mod ReadLemmas
 mod ResultLemmas

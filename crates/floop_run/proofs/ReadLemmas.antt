@@ -1,18 +1,15 @@
 -- From what a read of the loop file gives to the answer.
 use Rattle.std.proofs.Common.{◌≡◌, ◌≢◌, ℕ, Bool, true, false, List, [], Option, Some, None, Result, Ok, Err, length, refl, sym, ap, subst, ◌∙◌}
-use Rattle.std.specs.Prelude.{IfOk, IfSome, IsOk, codes, nat_le, if◌then◌else◌}
+use Rattle.std.specs.Prelude.{IfSome, IsOk, codes, nat_le, if◌then◌else◌}
 use Rattle.std.specs.FinMap.{get}
 use Rattle.std.proofs.lemmas.Bool.{leb-true, leb-false}
 use Rattle.edge_io.specs.declared.files.ReadStop.{ReadStop}
 use Rattle.edge_io.specs.declared.files.ReadStop.TheVariants as stop
 use Rattle.edge_io.specs.Reading.{Held, read_answer, Reads}
-use Rattle.floop_run.specs.declared.answer.Output.{Output}
-use Rattle.floop_run.specs.declared.answer.OutputStop.{OutputStop}
 use Rattle.program_words.specs.Requests.{Request}
-use Rattle.floop_run.specs.Requests.{request_in, loop_file}
-use Rattle.floop_run.specs.Outputs.{answer_in}
+use Rattle.floop_run.specs.Requests.{request_in}
 use Rattle.loop_syntax.specs.Programs.{loop_file_limit}
-use Rattle.floop_run.specs.Answers.{Answer, refused, not_held, too_long_text, IsTextAnswer, IsFileAnswer, missing, too_long, within, IsRequestAnswer, no_request, asked, IsAnswer}
+use Rattle.floop_run.specs.Answers.{Answer, refused, not_held, too_long_text, IsTextAnswer, IsFileAnswer, missing, too_long, within, IsAskedAnswer, IsRequestAnswer, no_request, asked, IsAnswer}
 
 -- what holds of each holds of what is there
 pub every : {A : Type 0} (o : Option A) (P : A → Type 0) → ((a : A) → P a) → IfSome o P
@@ -116,10 +113,10 @@ missing_named q held r name file before now e n so =
     let none : get held name ≡ None = missing_read r (get held name) before now e (so (missing_not_failed r e) (missing_not_memory r e)) in
     subst (λ f. IsFileAnswer q held f not_held) (sym none ∙ ap (get held) n) missing
 
--- the file isn't held, whatever else is given
-pub missing_file : {T : Type 0} (q : Request) (held : Option Held) (r : Result T ReadStop) (name file before now : List ℕ) (A B : Type 0) → r ≡ Err stop.NotHeld → name ≡ file →
-    IfSome held (ReadsNamed r name before now) → IfSome held (λ h. A → B → IsFileAnswer q h (get h file) not_held)
-missing_file q held r name file before now A B e n reads = every_of held _ _ (λ h so a b. missing_named q h r name file before now e n so) reads
+-- the file isn't held
+pub missing_file : {T : Type 0} (q : Request) (held : Option Held) (r : Result T ReadStop) (name file before now : List ℕ) → r ≡ Err stop.NotHeld → name ≡ file →
+    IfSome held (ReadsNamed r name before now) → IfSome held (λ h. IsFileAnswer q h (get h file) not_held)
+missing_file q held r name file before now e n reads = every_of held _ _ (λ h so. missing_named q h r name file before now e n so) reads
 
 -- ---- words
 
@@ -130,15 +127,6 @@ request_answer words r held answer e a = subst (λ x. IsRequestAnswer x held ans
 pub refused_answer : (words : List (List ℕ)) (text : List ℕ) (held : Held) (answer : Answer) → request_in words ≡ Err text → answer ≡ refused text → IsAnswer words held answer
 refused_answer words text held answer e is = request_answer words (Err text) held answer e (subst (IsRequestAnswer (Err text) held) (sym is) no_request)
 
-asked_ok : (words : List (List ℕ)) (q : Request) (held : Held) (r : Result Output OutputStop) → request_in words ≡ Ok q →
-    IfOk r (λ o. IsFileAnswer q held (get held (loop_file q)) (answer_in o)) → IfOk r (λ o. IsAnswer words held (answer_in o))
-asked_ok words q held (Ok o) e h = request_answer words (Ok q) held (answer_in o) e (asked h)
-asked_ok words q held (Err s) e h = h
-
-pub asked_answers : (words : List (List ℕ)) (q : Request) (held : Option Held) (r : Result Output OutputStop) → request_in words ≡ Ok q →
-    IfSome held (λ h. IfOk r (λ o. IsFileAnswer q h (get h (loop_file q)) (answer_in o))) → IfSome held (λ h. IfOk r (λ o. IsAnswer words h (answer_in o)))
-asked_answers words q held r e h = every_of held _ _ (λ f. asked_ok words q f r e) h
-
-pub asked_missing : (words : List (List ℕ)) (q : Request) (held : Option Held) (A B : Type 0) → request_in words ≡ Ok q →
-    IfSome held (λ h. A → B → IsFileAnswer q h (get h (loop_file q)) not_held) → IfSome held (λ h. A → B → IsAnswer words h not_held)
-asked_missing words q held A B e h = every_of held _ _ (λ f missed a b. request_answer words (Ok q) f not_held e (asked (missed a b))) h
+-- the answer of the request that the words are is that of the words
+pub asked_answers : (words : List (List ℕ)) (q : Request) (held : Option Held) → request_in words ≡ Ok q → IfSome held (λ h. (answer : Answer) → IsAskedAnswer q h answer → IsAnswer words h answer)
+asked_answers words q held e = every held _ (λ h answer is. request_answer words (Ok q) h answer e (asked is))

@@ -1,16 +1,21 @@
 -- The top call's clauses, from those of what it calls.
-use Rattle.std.proofs.Common.{◌≡◌, ◌≢◌, ℕ, List, Option, Some, None, refl, subst}
+use Rattle.std.proofs.Common.{◌≡◌, ◌≢◌, ◌∷◌, [], ◌++◌, ℕ, List, length, Option, Some, None, refl, ap, subst}
 use Rattle.std.specs.Prelude.{IfSome, IfErr, Result, Ok, Err}
 use Rattle.edge_io.specs.Reading.{Held}
+use Rattle.edge_io.specs.Counts.{counted, counted_times}
 use Rattle.floop_run.specs.declared.answer.Output.{Output}
+use Rattle.floop_run.specs.declared.answer.OutputStop.{OutputStop}
+use Rattle.floop_run.specs.declared.answer.OutputStop.TheVariants as stop
 use Rattle.floop_run.specs.declared.status.Status.{Status}
 use Rattle.floop_run.specs.declared.status.Status.TheVariants as status
-use Rattle.floop_run.specs.Outputs.{answer_in}
+use Rattle.floop_run.specs.Outputs.{answer_in, lines_in}
 use Rattle.program_words.specs.Requests.{Request}
-use Rattle.floop_run.specs.Answers.{IsAnswer, refused, not_held}
-use Rattle.floop_run.specs.TopCall.{Gives, GivesAnswer, PutsPrefixOf, IsAnswered}
+use Rattle.floop_run.specs.Answers.{Answer, IsAnswer, refused, not_held}
+use Rattle.floop_run.specs.Results.{line}
+use Rattle.floop_run.specs.TopCall.{Gives, GivesAnswer, PutsEach, PutsPrefixOf, LastPutFailed, IsAnswered}
 use Rattle.floop_run.proofs.AnswerLemmas.{only_not_held}
 use Rattle.floop_run.proofs.PutLemmas.{Puts-nothing}
+use Rattle.floop_run.proofs.ReadLemmas.{every_of}
 
 gives_nothing : (words : List (List ℕ)) (held : Held) (written : Option (List ℕ)) → IsAnswer words held not_held → GivesAnswer words held status.ReadFault written written
 gives_nothing words held written is = (not_held, is, record { status = refl; text = Puts-nothing written })
@@ -37,3 +42,43 @@ pub prefix_of_refused : (request : Result Request (List ℕ)) (before now : Opti
     (given ≡ status.WriteFault → PutsPrefixOf (answer_in output) before now) → IfErr request (λ text. given ≡ status.WriteFault → PutsPrefixOf (refused text) before now)
 prefix_of_refused (Ok asked) before now output given is puts = tt
 prefix_of_refused (Err text) before now output given is puts = λ e. subst (λ a. PutsPrefixOf a before now) is (puts e)
+
+-- what was given of an output is given of the answer that it is
+pub of_answer : (held : Option Held) (words : List (List ℕ)) (output : Output) (A : Type 0) (P : Answer → Type 0) → IfSome held (λ h. IsAnswer words h (answer_in output)) → (A → P (answer_in output))
+    → IfSome held (λ h. A → (answer : Answer) × IsAnswer words h answer × P answer)
+of_answer held words output A P is gives = every_of held _ _ (λ h one a. (answer_in output, one, gives a)) is
+
+-- a read fault, where no read failed
+pub read_fault_is : (held : Option Held) (words : List (List ℕ)) (A : Type 0) → IfSome held (λ h. A → ◌≡◌ {A = Result Output OutputStop} (Err stop.ReadFault) (Err stop.ReadFault) → IsAnswer words h not_held)
+    → IfSome held (λ h. A → ◌≡◌ {A = Status} status.ReadFault status.ReadFault → IsAnswer words h not_held)
+read_fault_is held words A is = every_of held _ _ (λ h one a e. one a refl) is
+
+-- of one line the last put that failed is the only one
+one_failed : (line : List ℕ) (before now : Option (List ℕ)) (puts puts2 : ℕ) → LastPutFailed (line ∷ []) before now puts puts2 → puts2 ≡ counted puts
+one_failed line before now puts puts2 last = by last.whole last.split last.count
+  where
+    by : (whole : List (List ℕ)) → line ∷ [] ≡ whole ++ last.failed ∷ last.after → puts2 ≡ counted (counted_times (length whole) puts) → puts2 ≡ counted puts
+    by [] e count = count
+    by (one ∷ []) e count = absurd (cc)
+    by (one ∷ other ∷ rest) e count = absurd (cc)
+
+-- what is one line is given by one put
+by_status : (given : Status) (line : List ℕ) (before now : Option (List ℕ)) (puts puts2 : ℕ) → (IsAnswered given → PutsEach (line ∷ []) puts puts2) → (given ≡ status.WriteFault → LastPutFailed (line ∷ []) before now puts puts2)
+    → (given ≢ status.WriteFault → given ≢ status.NoMemory → IsAnswered given) → given ≢ status.NoMemory → puts2 ≡ counted puts
+by_status status.Done line before now puts puts2 each last cases other = each tt
+by_status status.LoopFault line before now puts puts2 each last cases other = each tt
+by_status status.Refused line before now puts puts2 each last cases other = each tt
+by_status status.ReadFault line before now puts puts2 each last cases other = absurd (cases (λ e. absurd (cc)) other)
+by_status status.WriteFault line before now puts puts2 each last cases other = one_failed line before now puts puts2 (last refl)
+by_status status.NoMemory line before now puts puts2 each last cases other = absurd (other refl)
+
+-- the refusal of words is one put
+pub one_put : (request : Result Request (List ℕ)) (output : Output) (given : Status) (before now : Option (List ℕ)) (puts puts2 : ℕ) → IfErr request (λ text. answer_in output ≡ refused text)
+    → (IsAnswered given → PutsEach (lines_in output.lines.items) puts puts2) → (given ≡ status.WriteFault → LastPutFailed (lines_in output.lines.items) before now puts puts2)
+    → (given ≢ status.WriteFault → given ≢ status.NoMemory → IsAnswered given) → IfErr request (λ text. given ≢ status.NoMemory → puts2 ≡ counted puts)
+one_put (Ok asked) output given before now puts puts2 is each last cases = tt
+one_put (Err text) output given before now puts puts2 is each last cases =
+    let lines : lines_in output.lines.items ≡ line text ∷ [] = ap (λ (answer : Answer). answer.lines) is in
+    by_status given (line text) before now puts puts2
+    (λ answered. subst (λ ls. PutsEach ls puts puts2) lines (each answered))
+    (λ e. subst (λ ls. LastPutFailed ls before now puts puts2) lines (last e)) cases

@@ -1,6 +1,6 @@
--- The answer of a call: its status and the text that it writes, from the words and what files hold. No thread,
+-- The answer of a call: its status and the lines that it writes, from the words and what files hold. No thread,
 -- part or schedule is in it. Source: this project.
-use Rattle.std.specs.Prelude.{◌≡◌, ℕ, ◌<◌, ◌≤◌, List, [], ◌++◌, length, codes, Option, Some, None, Result, Ok, Err}
+use Rattle.std.specs.Prelude.{◌≡◌, ℕ, ◌<◌, ◌≤◌, List, [], ◌∷◌, ◌++◌, length, codes, Option, Some, None, Result, Ok, Err}
 use Rattle.std.specs.FinMap.{get}
 use Rattle.std.specs.Fmt.{decimal}
 use Rattle.edge_io.specs.Reading.{Held}
@@ -31,23 +31,24 @@ use Rattle.loop_meaning.specs.declared.runs.PlainStop.TheVariants as stop
 use Rattle.floop_run.specs.declared.status.Status.{Status}
 use Rattle.floop_run.specs.declared.status.Status.TheVariants as status
 use Rattle.floop_run.specs.Requests.{request_in, loop_file, data_names}
-use Rattle.floop_run.specs.Results.{line, results_text, fault_line, whole_run, accepted_text}
+use Rattle.floop_run.specs.Results.{line, results_lines, fault_line, whole_run, accepted_line}
 
+-- each line with its LF; a result may hold further LFs
 pub record Answer : Type 0 where
   pub status : Status
-  pub text : List ℕ
+  pub lines : List (List ℕ)
 
 -- a refusal is one line
 abbrev pub refused : List ℕ → Answer
-refused text = record { status = status.Refused; text = line text }
+refused text = record { status = status.Refused; lines = line text ∷ [] }
 
 -- the answer where a file that the call reaches isn't held: nothing is written
 abbrev pub not_held : Answer
-not_held = record { status = status.ReadFault; text = [] }
+not_held = record { status = status.ReadFault; lines = [] }
 
--- what was done: the text
-abbrev pub done : List ℕ → Answer
-done text = record { status = status.Done; text = text }
+-- what was done: its lines
+abbrev pub done : List (List ℕ) → Answer
+done lines = record { status = status.Done; lines = lines }
 
 -- what a loop file is called that is too long
 abbrev pub too_long_text : List ℕ
@@ -57,16 +58,16 @@ too_long_text = codes "loop file: over " ++ decimal loop_file_limit ++ codes " b
 
 -- the answer of a run that ended so
 abbrev pub ended_answer : ProgramTree → Run → PlainStop → Answer
-ended_answer program run stop.Ran = done (results_text program run)
-ended_answer program run (stop.Break at in_line) = done (results_text program run)
-ended_answer program run (stop.Fault at in_line kind) = record { status = status.LoopFault; text = fault_line at in_line kind }
+ended_answer program run stop.Ran = done (results_lines program run)
+ended_answer program run (stop.Break at in_line) = done (results_lines program run)
+ended_answer program run (stop.Fault at in_line kind) = record { status = status.LoopFault; lines = fault_line at in_line kind ∷ [] }
 
 abbrev pub run_answer : ProgramTree → Run → Answer
 run_answer program run = ended_answer program run run.stop
 
 -- what the command writes of a legal program over its items
 abbrev pub command_answer : Command → ProgramTree → List Value → Answer
-command_answer command.Check program items = done (accepted_text program items)
+command_answer command.Check program items = done (accepted_line program items ∷ [])
 command_answer command.Run program items = run_answer program (whole_run program items)
 
 -- ---- refusals, in their order
@@ -106,11 +107,15 @@ pub data IsFileAnswer : Request → Held → Option (List ℕ) → Answer → Ty
   within : {request : Request} {held : Held} {bytes : List ℕ} {answer : Answer} →
       length bytes ≤ loop_file_limit → IsTextAnswer request held bytes answer → IsFileAnswer request held (Some bytes) answer
 
+-- the answer of a request, by its loop file
+abbrev pub IsAskedAnswer : Request → Held → Answer → Type 0
+IsAskedAnswer request held answer = IsFileAnswer request held (get held (loop_file request)) answer
+
 -- the answer for what the words are: the text of their first refusal, or what their request asks for
 pub data IsRequestAnswer : Result Request (List ℕ) → Held → Answer → Type 0 where
   no_request : {text : List ℕ} {held : Held} → IsRequestAnswer (Err text) held (refused text)
   asked : {request : Request} {held : Held} {answer : Answer} →
-      IsFileAnswer request held (get held (loop_file request)) answer → IsRequestAnswer (Ok request) held answer
+      IsAskedAnswer request held answer → IsRequestAnswer (Ok request) held answer
 
 -- The answer of a call with these words over these files.
 abbrev pub IsAnswer : List (List ℕ) → Held → Answer → Type 0

@@ -1,6 +1,6 @@
 -- What a request asks of the program.
 -- Source: this project.
-use Rattle.std.specs.Prelude.{ℕ, List, [], unwrap_or, Option, Some, None, Result}
+use Rattle.std.specs.Prelude.{ℕ, ◌+◌, List, [], length, unwrap_or, Option, Some, None, Result, Ok, Err}
 use Rattle.program_words.specs.declared.command.Call.TheVariants as call
 use Rattle.program_words.specs.declared.setting.Setting.{Setting}
 use Rattle.program_words.specs.declared.setting.Setting.TheVariants as setting
@@ -27,3 +27,9 @@ names_of (Some value) = names_in value
 -- the names of the data files, in order; where the setting isn't given there are none, and the table is that of no file
 abbrev pub data_names : Request → List (List ℕ)
 data_names r = names_of (value_of setting.Data r)
+
+-- how many reads a call makes at most: one of the loop file and one for each name of a data file; none where the words are
+-- no request
+abbrev pub most_reads : Result Request (List ℕ) → ℕ
+most_reads (Err text) = 0
+most_reads (Ok request) = 1 + length (data_names request)

@@ -1,6 +1,7 @@
 -- What a run comes to: a line for each `print` line, or its fault.
 -- Source: this project.
-use Rattle.std.specs.Prelude.{ℕ, Bool, true, false, ◌==◌, if◌then◌else◌, List, [], ◌∷◌, ◌++◌, flat_map, length, codes, Option, Some, None}
+use Rattle.std.specs.Prelude.{ℕ, Bool, true, false, ◌==◌, if◌then◌else◌, List, [], ◌∷◌, ◌++◌, map, length, codes, Option}
+use Rattle.std.specs.Prelude.{Some, None}
 use Rattle.std.specs.Fmt.{decimal}
 use Rattle.loop_data.specs.declared.value.Value.{Value}
 use Rattle.loop_data.specs.declared.tower.Kind.{Kind}
@@ -30,14 +31,14 @@ text_of (Some kind) inputs = result_text kind inputs
 abbrev pub result_line : ProgramTree → List Pair → PrintLine → List ℕ
 result_line program emitted print = line (text_of (reducer_kind program print.name) (inputs_of program emitted print.name))
 
--- how many faults were skipped, in a program that skips them
-abbrev pub skipped_line : Bool → ℕ → List ℕ
-skipped_line true skipped = line (codes "faults: " ++ decimal skipped)
-skipped_line false skipped = []
+-- one line more in a program that skips faults: how many were skipped
+abbrev pub skipped_lines : Bool → ℕ → List (List ℕ)
+skipped_lines true skipped = line (codes "faults: " ++ decimal skipped) ∷ []
+skipped_lines false skipped = []
 
 -- the lines of a run that ran to its end or broke: a result a `print` line, in order, and then the number of skipped faults
-abbrev pub results_text : ProgramTree → Run → List ℕ
-results_text program run = flat_map (result_line program run.emitted) program.prints ++ skipped_line (skips_faults program) run.skipped
+abbrev pub results_lines : ProgramTree → Run → List (List ℕ)
+results_lines program run = map (result_line program run.emitted) program.prints ++ skipped_lines (skips_faults program) run.skipped
 
 -- ---- faults
 
@@ -62,6 +63,6 @@ abbrev pub whole_run : ProgramTree → List Value → Run
 whole_run program items = loop_run program (start_store program) items 1
 
 -- what `check` writes: how many items and how many reducers there are
-abbrev pub accepted_text : ProgramTree → List Value → List ℕ
-accepted_text program items =
+abbrev pub accepted_line : ProgramTree → List Value → List ℕ
+accepted_line program items =
     line (codes "accepted: " ++ decimal (length items) ++ codes " items, " ++ decimal (length (reducers_of program)) ++ codes " reducers")

@@ -1,7 +1,7 @@
 //! What `check` writes.
 
-ghost use Rattle.std.specs.Prelude.{◌≡◌, IfOk};
-ghost use Rattle.floop_run.specs.Results.{accepted_text};
+ghost use Rattle.std.specs.Prelude.{◌≡◌, [], ◌∷◌, IfOk};
+ghost use Rattle.floop_run.specs.Results.{accepted_line};
 ghost use Rattle.floop_run.specs.Answers.{done};
 ghost use Rattle.floop_run.specs.TopCall.{IsAnswered};
 ghost use Rattle.floop_run.specs.Outputs.{answer_in};
@@ -20,7 +20,7 @@ pub(crate) fn accepted_output(
     legal: &LegalProgram,
     head: &HeadItems<'_>,
 ) -> Result<Output, NoMemory>
-    ensures answer { IfOk result (λ o. answer_in o ≡ done (accepted_text legal.now head.now.items)) }
+    ensures answer { IfOk result (λ o. answer_in o ≡ done (accepted_line legal.now head.now.items ∷ [])) }
     ensures answered { IfOk result (λ o. IsAnswered o.status) }
 {
     let items = head.count();

@@ -1,18 +1,17 @@
 //! The output of a call: its status and its lines, from the words and what files hold.
 
-ghost use Rattle.std.specs.Prelude.{◌≡◌, ◌≢◌, ◌≤◌, Err, IfOk, IfErr, IfSome, IsOk, length, string_bytes};
-ghost use Rattle.std.specs.FinMap.{get};
-ghost use Rattle.edge_io.specs.Faults.{Rose};
+ghost use Rattle.std.specs.Prelude.{◌≡◌, ◌+◌, ◌≤◌, ◌∷◌, [], Err, IfOk, IfErr, IfSome, IsOk, length, string_bytes};
 ghost use Rattle.program_words.specs.Words.{texts};
 ghost use Rattle.program_words.specs.Views.{request_seen};
 ghost use Rattle.loop_syntax.specs.Programs.{loop_file_limit};
 ghost use Rattle.data_files.specs.Tables.{data_table};
 ghost use Rattle.loop_items.specs.Refusals.{first_head_refusal};
 ghost use Rattle.plain_path.specs.Paths.{AreHeadItems};
-ghost use Rattle.floop_run.specs.Requests.{request_in, loop_file, data_names};
-ghost use Rattle.floop_run.specs.Answers.{IsAnswer, IsFileAnswer, IsTextAnswer, program_answer, table_answer, head_answer, command_answer, not_held, refused, too_long_text};
+ghost use Rattle.floop_run.specs.Requests.{request_in, data_names, most_reads};
+ghost use Rattle.floop_run.specs.Answers.{IsAnswer, IsAskedAnswer, IsTextAnswer, program_answer, table_answer, head_answer};
+ghost use Rattle.floop_run.specs.Answers.{command_answer, refused, too_long_text};
 ghost use Rattle.floop_run.specs.TopCall.{IsAnswered};
-ghost use Rattle.floop_run.specs.Outputs.{answer_in};
+ghost use Rattle.floop_run.specs.Outputs.{MakesOutput, answer_in};
 
 use crate::Status;
 use crate::accepted::accepted_output;
@@ -74,16 +73,17 @@ pub fn output_for<F: Files>(
     words: &[String],
     files: &mut F,
 ) -> Result<Output, OutputStop>
-    ensures output { IfSome (F.held files.old) (λ held.
-        IfOk result (λ o. IsAnswer (texts words.now) held (answer_in o))) }
-    ensures words { IfErr (request_in (texts words.now)) (λ text. IfOk result (λ o. answer_in o ≡ refused text)) }
-    ensures read_fault_words { result ≡ Err OutputStop.ReadFault → IsOk (request_in (texts words.now)) }
-    ensures answered { IfOk result (λ o. IsAnswered o.status) }
-    ensures read_fault { IfSome (F.held files.old) (λ held.
-        (Rose (F.faults files.old) (F.faults files.new) → ⊥) → result ≡ Err OutputStop.ReadFault →
-        IsAnswer (texts words.now) held not_held) }
-    ensures held { F.held files.new ≡ F.held files.old }
-    ensures kept { result ≢ Err OutputStop.ReadFault → F.faults files.new ≡ F.faults files.old }
+    // Over files that tell, an output is the answer of these words.
+    ensures made { MakesOutput (IsAnswer (texts words.now)) (most_reads (request_in (texts words.now))) result
+        (F.held files.old) (F.held files.new) (F.reads files.old) (F.reads files.new)
+        (F.faults files.old) (F.faults files.new) }
+
+    // Words that are no request have their refusal, whatever files tell, and no file is read.
+    ensures words { IfErr (request_in (texts words.now)) (λ text.
+        IfOk result (λ o. answer_in o ≡ refused text)) }
+    ensures words_unread { IfErr (request_in (texts words.now)) (λ text.
+        F.reads files.new ≡ F.reads files.old) }
+    ensures words_taken { result ≡ Err OutputStop.ReadFault → IsOk (request_in (texts words.now)) }
 {
     match request_of(Call::Direct, words) {
         Ok(request) => loop_output(alloc, &request, files),
@@ -97,14 +97,10 @@ fn loop_output<F: Files>(
     request: &Request<'_>,
     files: &mut F,
 ) -> Result<Output, OutputStop>
-    ensures output { IfSome (F.held files.old) (λ held.
-        IfOk result (λ o. IsFileAnswer (request_seen request.now) held (get held (loop_file (request_seen request.now))) (answer_in o))) }
-    ensures answered { IfOk result (λ o. IsAnswered o.status) }
-    ensures read_fault { IfSome (F.held files.old) (λ held.
-        (Rose (F.faults files.old) (F.faults files.new) → ⊥) → result ≡ Err OutputStop.ReadFault →
-        IsFileAnswer (request_seen request.now) held (get held (loop_file (request_seen request.now))) not_held) }
-    ensures held { F.held files.new ≡ F.held files.old }
-    ensures kept { result ≢ Err OutputStop.ReadFault → F.faults files.new ≡ F.faults files.old }
+    ensures { MakesOutput (IsAskedAnswer (request_seen request.now))
+        (1 + length (data_names (request_seen request.now))) result
+        (F.held files.old) (F.held files.new) (F.reads files.old) (F.reads files.new)
+        (F.faults files.old) (F.faults files.new) }
 {
     let name = loop_file(request);
     let mut bytes = Vec::new(alloc);
@@ -146,7 +142,7 @@ fn refusal(alloc: Global, text: &str) -> Result<Output, NoMemory>
 
 /// An output of one line.
 pub(crate) fn one_line(alloc: Global, status: Status, line: String) -> Result<Output, NoMemory>
-    ensures { IfOk result (λ o. answer_in o ≡ record { status = status; text = string_bytes line }) }
+    ensures { IfOk result (λ o. answer_in o ≡ record { status = status; lines = string_bytes line ∷ [] }) }
 {
     let lines = vec![in alloc; line.into_bytes()]?;
     Ok(Output { status, lines })
@@ -160,14 +156,10 @@ fn text_output<F: Files>(
     files: &mut F,
 ) -> Result<Output, OutputStop>
     requires { length bytes.now ≤ loop_file_limit }
-    ensures output { IfSome (F.held files.old) (λ held.
-        IfOk result (λ o. IsTextAnswer (request_seen request.now) held bytes.now (answer_in o))) }
-    ensures answered { IfOk result (λ o. IsAnswered o.status) }
-    ensures read_fault { IfSome (F.held files.old) (λ held.
-        (Rose (F.faults files.old) (F.faults files.new) → ⊥) → result ≡ Err OutputStop.ReadFault →
-        IsTextAnswer (request_seen request.now) held bytes.now not_held) }
-    ensures held { F.held files.new ≡ F.held files.old }
-    ensures kept { result ≢ Err OutputStop.ReadFault → F.faults files.new ≡ F.faults files.old }
+    ensures { MakesOutput (λ held answer. IsTextAnswer (request_seen request.now) held bytes.now answer)
+        (length (data_names (request_seen request.now))) result
+        (F.held files.old) (F.held files.new) (F.reads files.old) (F.reads files.new)
+        (F.faults files.old) (F.faults files.new) }
 {
     match read_program(alloc, bytes) {
         Ok(program) => program_output(alloc, request, program, files),
@@ -183,14 +175,10 @@ fn program_output<F: Files>(
     program: Program,
     files: &mut F,
 ) -> Result<Output, OutputStop>
-    ensures output { IfSome (F.held files.old) (λ held.
-        IfOk result (λ o. answer_in o ≡ program_answer (request_seen request.now) held program)) }
-    ensures answered { IfOk result (λ o. IsAnswered o.status) }
-    ensures read_fault { IfSome (F.held files.old) (λ held.
-        (Rose (F.faults files.old) (F.faults files.new) → ⊥) → result ≡ Err OutputStop.ReadFault →
-        not_held ≡ program_answer (request_seen request.now) held program) }
-    ensures held { F.held files.new ≡ F.held files.old }
-    ensures kept { result ≢ Err OutputStop.ReadFault → F.faults files.new ≡ F.faults files.old }
+    ensures { MakesOutput (λ held answer. answer ≡ program_answer (request_seen request.now) held program)
+        (length (data_names (request_seen request.now))) result
+        (F.held files.old) (F.held files.new) (F.reads files.old) (F.reads files.new)
+        (F.faults files.old) (F.faults files.new) }
 {
     match check_program(alloc, program) {
         Ok(legal) => legal_output(alloc, request, &legal, files),
@@ -206,15 +194,11 @@ fn legal_output<F: Files>(
     legal: &LegalProgram,
     files: &mut F,
 ) -> Result<Output, OutputStop>
-    ensures output { IfSome (F.held files.old) (λ held.
-        IfOk result (λ o. answer_in o
-        ≡ table_answer (data_table (data_names (request_seen request.now)) held) request.now.command legal.now)) }
-    ensures answered { IfOk result (λ o. IsAnswered o.status) }
-    ensures read_fault { IfSome (F.held files.old) (λ held.
-        (Rose (F.faults files.old) (F.faults files.new) → ⊥) → result ≡ Err OutputStop.ReadFault →
-        not_held ≡ table_answer (data_table (data_names (request_seen request.now)) held) request.now.command legal.now) }
-    ensures held { F.held files.new ≡ F.held files.old }
-    ensures kept { result ≢ Err OutputStop.ReadFault → F.faults files.new ≡ F.faults files.old }
+    ensures { MakesOutput (λ held answer. answer
+        ≡ table_answer (data_table (data_names (request_seen request.now)) held) request.now.command legal.now)
+        (length (data_names (request_seen request.now))) result
+        (F.held files.old) (F.held files.new) (F.reads files.old) (F.reads files.new)
+        (F.faults files.old) (F.faults files.new) }
 {
     let names = data_names(alloc, request)?;
     match read_data(alloc, &names, files) {
@@ -233,7 +217,8 @@ fn table_output(
     legal: &LegalProgram,
     table: &Table,
 ) -> Result<Output, NoMemory>
-    ensures answer { IfOk result (λ o. answer_in o ≡ head_answer (first_head_refusal legal.now table.now) command legal.now table.now) }
+    ensures answer { IfOk result (λ o. answer_in o
+        ≡ head_answer (first_head_refusal legal.now table.now) command legal.now table.now) }
     ensures answered { IfOk result (λ o. IsAnswered o.status) }
 {
     match HeadItems::open(alloc, legal.program(), table) {

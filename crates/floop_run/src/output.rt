@@ -1,7 +1,8 @@
 ghost use Rattle.std.specs.Prelude.{◌≡◌, ◌≢◌, ◌≤◌, Err, OnOk, OnErr, ◌+◌, length, IfSome};
-ghost use Rattle.edge_io.specs.Faults.{Rose};
+ghost use Rattle.edge_io.specs.Counts.{RoseByOne};
 ghost use Rattle.edge_io.specs.Writing.{Puts, PutsPrefix};
-ghost use Rattle.floop_run.specs.TopCall.{joined};
+ghost use Rattle.floop_run.specs.TopCall.{joined, LastPutFailed, PutsEach};
+ghost use Rattle.floop_run.specs.Outputs.{lines_in};
 
 use edge_io::{NoMemory, Sink, SinkFailed};
 use std::alloc::Global;
@@ -29,11 +30,22 @@ impl From<NoMemory> for WriteStop {
 /// Writes the lines, each by one put, after room was made for all of them. After the first put that fails nothing
 /// more is put.
 pub fn write_lines<K: Sink>(alloc: Global, out: &mut K, lines: &[Vec<u8>]) -> Result<(), WriteStop>
-    ensures written { OnOk result (Puts (K.written out.old) (K.written out.new) (joined lines.now)) }
+    // Each line is one put.
+    ensures written { OnOk result
+        (Puts (K.written out.old) (K.written out.new) (joined (lines_in lines.now))) }
+    ensures put_each { OnOk result (PutsEach (lines_in lines.now) (K.puts out.old) (K.puts out.new)) }
+
+    // A put that failed is the last.
+    ensures failed { result ≡ Err WriteStop.Failed → RoseByOne (K.faults out.old) (K.faults out.new) }
+    ensures prefix { result ≡ Err WriteStop.Failed →
+        PutsPrefix (K.written out.old) (K.written out.new) (joined (lines_in lines.now)) }
+    ensures last { result ≡ Err WriteStop.Failed → LastPutFailed (lines_in lines.now)
+        (K.written out.old) (K.written out.new) (K.puts out.old) (K.puts out.new) }
     ensures kept { result ≢ Err WriteStop.Failed → K.faults out.new ≡ K.faults out.old }
-    ensures prefix { result ≡ Err WriteStop.Failed → PutsPrefix (K.written out.old) (K.written out.new) (joined lines.now) }
-    ensures failed { result ≡ Err WriteStop.Failed → Rose (K.faults out.old) (K.faults out.new) }
+
+    // For want of memory nothing is put.
     ensures no_memory { result ≡ Err WriteStop.NoMemory → K.written out.new ≡ K.written out.old }
+    ensures no_memory_put { result ≡ Err WriteStop.NoMemory → K.puts out.new ≡ K.puts out.old }
 {
     let Some(length) = total_length(lines) else {
         return Err(WriteStop::NoMemory);
@@ -47,7 +59,7 @@ pub fn write_lines<K: Sink>(alloc: Global, out: &mut K, lines: &[Vec<u8>]) -> Re
 
 /// How many bytes the lines have together.
 fn total_length(lines: &[Vec<u8>]) -> Option<u64>
-    ensures { IfSome result (λ n. n ≡ length (joined lines.now)) }
+    ensures { IfSome result (λ n. n ≡ length (joined (lines_in lines.now))) }
 {
     let mut total: u64 = 0;
     for line in lines {
@@ -58,11 +70,16 @@ fn total_length(lines: &[Vec<u8>]) -> Option<u64>
 
 /// Puts the lines, for which there must be room, until a put fails.
 fn put_lines<K: Sink>(out: &mut K, lines: &[Vec<u8>]) -> Result<(), SinkFailed>
-    requires { length (joined lines.now) ≤ K.room out.old }
-    ensures written { OnOk result (Puts (K.written out.old) (K.written out.new) (joined lines.now)) }
+    requires { length (joined (lines_in lines.now)) ≤ K.room out.old }
+    ensures written { OnOk result
+        (Puts (K.written out.old) (K.written out.new) (joined (lines_in lines.now))) }
+    ensures put_each { OnOk result (PutsEach (lines_in lines.now) (K.puts out.old) (K.puts out.new)) }
     ensures not_failed { OnOk result (K.faults out.new ≡ K.faults out.old) }
-    ensures prefix { OnErr result (PutsPrefix (K.written out.old) (K.written out.new) (joined lines.now)) }
-    ensures failed { OnErr result (Rose (K.faults out.old) (K.faults out.new)) }
+    ensures prefix { OnErr result
+        (PutsPrefix (K.written out.old) (K.written out.new) (joined (lines_in lines.now))) }
+    ensures last { OnErr result (LastPutFailed (lines_in lines.now)
+        (K.written out.old) (K.written out.new) (K.puts out.old) (K.puts out.new)) }
+    ensures failed { OnErr result (RoseByOne (K.faults out.old) (K.faults out.new)) }
 {
     for line in lines {
         out.put(line.as_slice())?;

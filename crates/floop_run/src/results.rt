@@ -1,16 +1,16 @@
 //! What `run` writes: the results, or the fault.
 
-ghost use Rattle.std.specs.Prelude.{◌≡◌, ◌++◌, List, IfOk, OnOk, flat_map, string_bytes};
+ghost use Rattle.std.specs.Prelude.{◌≡◌, ◌++◌, List, IfOk, OnOk, map, string_bytes};
 ghost use Rattle.loop_grammar.specs.declared.tree.ProgramTree.{ProgramTree};
 ghost use Rattle.loop_grammar.specs.SkippedFaults.{skips_faults};
 ghost use Rattle.loop_meaning.specs.declared.runs.Run.{Run};
 ghost use Rattle.loop_meaning.specs.declared.steps.Pair.{Pair};
 ghost use Rattle.plain_path.specs.Paths.{AreHeadItems};
-ghost use Rattle.floop_run.specs.Results.{fault_text, fault_line, result_line, results_text, skipped_line, whole_run};
+ghost use Rattle.floop_run.specs.Results.{fault_text, fault_line, result_line, results_lines, skipped_lines, whole_run};
 ghost use Rattle.floop_run.specs.Rows.{AreResults, StandForSome};
 ghost use Rattle.floop_run.specs.Answers.{done, run_answer};
-ghost use Rattle.floop_run.specs.TopCall.{IsAnswered, joined};
-ghost use Rattle.floop_run.specs.Outputs.{answer_in};
+ghost use Rattle.floop_run.specs.TopCall.{IsAnswered};
+ghost use Rattle.floop_run.specs.Outputs.{answer_in, lines_in};
 
 use crate::Status;
 use crate::answer::{Output, one_line};
@@ -76,7 +76,7 @@ fn result_lines(
 ) -> Result<Vec<Vec<u8>>, NoMemory>
     requires { StandForSome row.now state.now }
     ensures { IfOk result (λ lines. (program : ProgramTree) (emitted : List Pair) →
-        AreResults program row.now state.now emitted → joined lines.items ≡ flat_map (result_line program emitted) prints.now) }
+        AreResults program row.now state.now emitted → lines_in lines.items ≡ map (result_line program emitted) prints.now) }
 {
     let mut lines = Vec::with_capacity(alloc, prints.len())?;
     for print in prints {
@@ -92,7 +92,7 @@ fn add_skipped(
     skipped: u64,
     lines: &mut Vec<Vec<u8>>,
 ) -> Result<(), NoMemory>
-    ensures { OnOk result (joined lines.new.items ≡ joined lines.old.items ++ skipped_line (skips_faults program.now) skipped) }
+    ensures { OnOk result (lines_in lines.new.items ≡ lines_in lines.old.items ++ skipped_lines (skips_faults program.now) skipped) }
 {
     if !program.skips_faults() {
         return Ok(());
@@ -112,7 +112,7 @@ fn done_output(
 ) -> Result<Output, NoMemory>
     requires { StandForSome row.now state.now }
     ensures answer { IfOk result (λ o. (run : Run) → AreResults legal.now row.now state.now run.emitted → skipped ≡ run.skipped →
-        answer_in o ≡ done (results_text legal.now run)) }
+        answer_in o ≡ done (results_lines legal.now run)) }
     ensures answered { IfOk result (λ o. IsAnswered o.status) }
 {
     let program = legal.program();

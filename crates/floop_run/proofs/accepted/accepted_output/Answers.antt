@@ -18,4 +18,4 @@ returns-clause-answer c =
     let held : c.len-reducers.result ≡ length c.in_ok-row_of.field-0.towers.items = search rules in
     let reducers : c.len-reducers.result ≡ length (reducers_of c.args.legal.now) = held ∙ ap length c.in_ok-row_of.ensures ∙ row_counted c.args.legal.now in
     let pieces = five_pieces (codes "accepted: ") (decimal c.count-items.result) (codes " items, ") (decimal c.len-reducers.result) (codes " reducers") (10 ∷ []) in
-    IfOk-weaker c.one_line.result _ _ (λ o is. is ∙ ap done (c.in_ok-line.ensures.ok ∙ pieces ∙ ap₂ counted_line c.count-items.ensures.items reducers)) c.one_line.ensures
+    IfOk-weaker c.one_line.result _ _ (λ o is. is ∙ ap (λ written. done (written ∷ [])) (c.in_ok-line.ensures.ok ∙ pieces ∙ ap₂ counted_line c.count-items.ensures.items reducers)) c.one_line.ensures

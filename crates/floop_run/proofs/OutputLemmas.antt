@@ -1,0 +1,106 @@
+-- What the making of an output gives, from what its steps give.
+use Rattle.std.proofs.Common.{◌≡◌, ◌≢◌, ◌≤◌, ◌+◌, ℕ, Option, Result, Ok, Err, inl, inr, refl, ap, sym, subst, ◌∙◌, arith}
+use Rattle.std.specs.Prelude.{IfOk, IfSome, IsErrAnd, min}
+use Rattle.std.proofs.lemmas.Result.{IfOk-weaker}
+use Rattle.edge_io.specs.Counts.{counted, Rose, RoseByOne, RoseByOneAtMost, DidNotRise}
+use Rattle.edge_io.specs.Reading.{Held}
+use Rattle.floop_run.specs.declared.answer.Output.{Output}
+use Rattle.floop_run.specs.declared.answer.OutputStop.{OutputStop}
+use Rattle.floop_run.specs.declared.answer.OutputStop.TheVariants as stop
+use Rattle.floop_run.specs.Answers.{Answer, not_held}
+use Rattle.floop_run.specs.Outputs.{MakesOutput, answer_in}
+use Rattle.floop_run.specs.TopCall.{IsAnswered}
+use Rattle.floop_run.proofs.ReadLemmas.{every, every_of, both_some}
+
+-- for want of memory there is none
+pub wants_memory : (Q : Held → Answer → Type 0) (most : ℕ) (r : Result Output OutputStop) (held held2 : Option Held) (reads reads2 faults faults2 : ℕ)
+    → r ≡ Err stop.NoMemory → held2 ≡ held → reads2 ≤ reads + most → faults2 ≡ faults → MakesOutput Q most r held held2 reads reads2 faults faults2
+wants_memory Q most r held held2 reads reads2 faults faults2 e same read kept =
+    record {
+      output = every held _ (λ h. subst (λ x. IfOk x (λ o. Q h (answer_in o))) (sym e) tt);
+      answered = subst (λ x. IfOk x (λ o. IsAnswered o.status)) (sym e) tt;
+      read_fault = every held _ (λ h none fault. absurd (cc));
+      held = same;
+      failed_once = inl kept;
+      kept = λ other. kept;
+      reads = read;
+    }
+
+-- an output that is the answer's, where no read failed
+pub makes : (Q : Held → Answer → Type 0) (most : ℕ) (o : Output) (held held2 : Option Held) (reads reads2 faults faults2 : ℕ)
+    → IfSome held (λ h. Q h (answer_in o)) → IsAnswered o.status → held2 ≡ held → reads2 ≤ reads + most → faults2 ≡ faults → MakesOutput Q most (Ok o) held held2 reads reads2 faults faults2
+makes Q most o held held2 reads reads2 faults faults2 is answered same read kept =
+    record {
+      output = is;
+      answered = answered;
+      read_fault = every held _ (λ h none fault. absurd (cc));
+      held = same;
+      failed_once = inl kept;
+      kept = λ other. kept;
+      reads = read;
+    }
+
+-- the same of what may want memory, and else gives an output
+pub makes_or_wants : (Q : Held → Answer → Type 0) (most : ℕ) (r : Result Output OutputStop) (held held2 : Option Held) (reads reads2 faults faults2 : ℕ)
+    → IfSome held (λ h. IfOk r (λ o. Q h (answer_in o))) → IfOk r (λ o. IsAnswered o.status) → r ≢ Err stop.ReadFault → held2 ≡ held → reads2 ≤ reads + most → faults2 ≡ faults
+    → MakesOutput Q most r held held2 reads reads2 faults faults2
+makes_or_wants Q most r held held2 reads reads2 faults faults2 is answered other same read kept =
+    record {
+      output = is;
+      answered = answered;
+      read_fault = every held _ (λ h none fault. absurd (other fault));
+      held = same;
+      failed_once = inl kept;
+      kept = λ _. kept;
+      reads = read;
+    }
+
+-- a file that isn't held
+pub misses : (Q : Held → Answer → Type 0) (most : ℕ) (held held2 : Option Held) (reads reads2 faults faults2 : ℕ)
+    → IfSome held (λ h. Q h not_held) → held2 ≡ held → reads2 ≤ reads + most → faults2 ≡ faults → MakesOutput Q most (Err stop.ReadFault) held held2 reads reads2 faults faults2
+misses Q most held held2 reads reads2 faults faults2 is same read kept =
+    record {
+      output = every held _ (λ h. tt);
+      answered = tt;
+      read_fault = every_of held _ _ (λ h missing none fault. missing) is;
+      held = same;
+      failed_once = inl kept;
+      kept = λ _. kept;
+      reads = read;
+    }
+
+-- a read that failed
+pub fails : (Q : Held → Answer → Type 0) (most : ℕ) (held held2 : Option Held) (reads reads2 faults faults2 : ℕ)
+    → held2 ≡ held → reads2 ≤ reads + most → RoseByOne faults faults2 → MakesOutput Q most (Err stop.ReadFault) held held2 reads reads2 faults faults2
+fails Q most held held2 reads reads2 faults faults2 same read rose =
+    record {
+      output = every held _ (λ h. tt);
+      answered = tt;
+      read_fault = every held _ (λ h none fault. absurd (none (omega arith)));
+      held = same;
+      failed_once = inr rose;
+      kept = λ other. absurd (other refl);
+      reads = read;
+    }
+
+-- a step that goes on with another, which says more and reads no more, after reads that didn't fail
+pub goes_on : (P Q : Held → Answer → Type 0) (m n : ℕ) (r : Result Output OutputStop) (held held1 held2 : Option Held) (reads reads1 reads2 faults faults1 faults2 : ℕ)
+    → IfSome held (λ h. (answer : Answer) → P h answer → Q h answer) → held1 ≡ held → reads1 + m ≤ reads + n → faults1 ≡ faults → MakesOutput P m r held1 held2 reads1 reads2 faults1 faults2
+    → MakesOutput Q n r held held2 reads reads2 faults faults2
+goes_on P Q m n r held held1 held2 reads reads1 reads2 faults faults1 faults2 so same read kept made =
+    let more = made.reads in
+    record {
+      output = both_some held _ _ _ (λ h is given. IfOk-weaker r _ _ (λ o one. is (answer_in o) one) given) so (subst (λ x. IfSome x (λ h. IfOk r (λ o. P h (answer_in o)))) same made.output);
+      answered = made.answered;
+      read_fault = both_some held _ _ _ (λ h is missed none fault. is not_held (missed (λ rose. none (subst (λ before. Rose before faults2) kept rose)) fault)) so
+          (subst (λ x. IfSome x (λ h. DidNotRise faults1 faults2 → r ≡ Err stop.ReadFault → P h not_held)) same made.read_fault);
+      held = made.held ∙ same;
+      failed_once = subst (λ before. RoseByOneAtMost before faults2) kept made.failed_once;
+      kept = λ other. made.kept other ∙ kept;
+      reads = omega arith;
+    }
+
+-- want of memory that was handed on
+pub handed_memory : (r : Result Output OutputStop) → IsErrAnd r (λ e. e ≡ stop.NoMemory) → r ≡ Err stop.NoMemory
+handed_memory (Ok o) h = absurd h
+handed_memory (Err e) h = ap Err h
