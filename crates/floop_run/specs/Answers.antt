@@ -60,7 +60,8 @@ too_long_text = codes "loop file: over " ++ decimal loop_file_limit ++ codes " b
 abbrev pub ended_answer : ProgramTree → Run → PlainStop → Answer
 ended_answer program run stop.Ran = done (results_lines program run)
 ended_answer program run (stop.Break at in_line) = done (results_lines program run)
-ended_answer program run (stop.Fault at in_line kind) = record { status = status.LoopFault; lines = fault_line at in_line kind ∷ [] }
+ended_answer program run (stop.Fault at in_line kind) =
+    record { status = status.LoopFault; lines = fault_line at in_line kind ∷ [] }
 
 abbrev pub run_answer : ProgramTree → Run → Answer
 run_answer program run = ended_answer program run run.stop

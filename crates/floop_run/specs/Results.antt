@@ -38,7 +38,8 @@ skipped_lines false skipped = []
 
 -- the lines of a run that ran to its end or broke: a result a `print` line, in order, and then the number of skipped faults
 abbrev pub results_lines : ProgramTree → Run → List (List ℕ)
-results_lines program run = map (result_line program run.emitted) program.prints ++ skipped_lines (skips_faults program) run.skipped
+results_lines program run =
+    map (result_line program run.emitted) program.prints ++ skipped_lines (skips_faults program) run.skipped
 
 -- ---- faults
 
@@ -65,4 +66,5 @@ whole_run program items = loop_run program (start_store program) items 1
 -- what `check` writes: how many items and how many reducers there are
 abbrev pub accepted_line : ProgramTree → List Value → List ℕ
 accepted_line program items =
-    line (codes "accepted: " ++ decimal (length items) ++ codes " items, " ++ decimal (length (reducers_of program)) ++ codes " reducers")
+    line (codes "accepted: " ++ decimal (length items) ++ codes " items, " ++ decimal (length (reducers_of program))
+    ++ codes " reducers")

@@ -92,7 +92,8 @@ fn add_skipped(
     skipped: u64,
     lines: &mut Vec<Vec<u8>>,
 ) -> Result<(), NoMemory>
-    ensures { OnOk result (lines_in lines.new.items ≡ lines_in lines.old.items ++ skipped_lines (skips_faults program.now) skipped) }
+    ensures { OnOk result (lines_in lines.new.items
+        ≡ lines_in lines.old.items ++ skipped_lines (skips_faults program.now) skipped) }
 {
     if !program.skips_faults() {
         return Ok(());
