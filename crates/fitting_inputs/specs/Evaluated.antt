@@ -1,7 +1,7 @@
 -- Which expressions a loop may evaluate, and what its names are bound to there; and that none of them asks for a default.
--- Source: this project. Each condition counts with its block whether it is true or not, each expression and bound of a line though one
--- before it faults, and each item though one before it stops the run; what follows a fault, `continue` or `break` in the blocks of a
--- body run doesn't.
+-- Source: this project. Each condition counts with its block whether it is true or not, each expression and bound of a line
+-- though one before it faults, and each item though one before it stops the run; what follows a fault, `continue` or `break`
+-- in the blocks of a body run doesn't.
 use Rattle.std.specs.Prelude.{◌≡◌, ℕ, ◌+◌, ◌*◌, List, [], ◌∷◌, ◌++◌, if◌then◌else◌, flat_map, length, slice_get, Some, Ok, ℤ}
 use Rattle.std.specs.FinMap.{get}
 use Rattle.std.specs.List.{AllByRecursion}

@@ -72,8 +72,8 @@ LegalStepsFit = (text : List ℕ) (program : ProgramTree) (kind : ValueKind) (it
     fits kind item ≡ true → 1 ≤ place → place ≤ most_items →
     list_all (fits_reducer program) (body_step program (start_store program) item place).emitted ≡ true
 
--- of all that the run of a legal loop emits over its items, of which there are at most 4,294,967,296, from the start and place 1, each
--- input fits the tower of its reducer
+-- of all that the run of a legal loop emits over its items, of which there are at most 4,294,967,296, from the start and
+-- place 1, each input fits the tower of its reducer
 abbrev pub LegalRunsFit : Type 0
 LegalRunsFit = (text : List ℕ) (program : ProgramTree) (table : Contents) → SpellsProgram text program → IsLegal program →
     length (items_of program table) ≤ most_items →
@@ -92,8 +92,8 @@ LegalStretchesFit = (text : List ℕ) (program : ProgramTree) (table : Contents)
 abbrev pub LegalExpressionsHaveKinds : Type 0
 LegalExpressionsHaveKinds = (program : ProgramTree) → IsLegal program → AllByRecursion AreKinded (entries_of program)
 
--- No expression that the run of a legal loop over its items, of which there are at most 4,294,967,296, or over a stretch of them, from
--- the start, may evaluate asks for a default.
+-- No expression that the run of a legal loop over its items, of which there are at most 4,294,967,296, or over a stretch of
+-- them, from the start, may evaluate asks for a default.
 abbrev pub LegalRunsAreStrict : Type 0
 LegalRunsAreStrict = (text : List ℕ) (program : ProgramTree) (table : Contents) (first count : ℕ) (x : Expr) (names : Bindings) →
     SpellsProgram text program → IsLegal program → length (items_of program table) ≤ most_items → 1 ≤ first →
