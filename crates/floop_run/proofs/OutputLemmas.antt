@@ -12,20 +12,6 @@ use Rattle.floop_run.specs.Outputs.{MakesOutput, answer_in}
 use Rattle.floop_run.specs.TopCall.{IsAnswered}
 use Rattle.floop_run.proofs.ReadLemmas.{every, every_of, both_some}
 
--- for want of memory there is none
-pub wants_memory : (Q : Held → Answer → Type 0) (most : ℕ) (r : Result Output OutputStop) (held held2 : Option Held) (reads reads2 faults faults2 : ℕ)
-    → r ≡ Err stop.NoMemory → held2 ≡ held → reads2 ≤ reads + most → faults2 ≡ faults → MakesOutput Q most r held held2 reads reads2 faults faults2
-wants_memory Q most r held held2 reads reads2 faults faults2 e same read kept =
-    record {
-      output = every held _ (λ h. subst (λ x. IfOk x (λ o. Q h (answer_in o))) (sym e) tt);
-      answered = subst (λ x. IfOk x (λ o. IsAnswered o.status)) (sym e) tt;
-      read_fault = every held _ (λ h none fault. absurd (cc));
-      held = same;
-      failed_once = inl kept;
-      kept = λ other. kept;
-      reads = read;
-    }
-
 -- an output that is the answer's, where no read failed
 pub makes : (Q : Held → Answer → Type 0) (most : ℕ) (o : Output) (held held2 : Option Held) (reads reads2 faults faults2 : ℕ)
     → IfSome held (λ h. Q h (answer_in o)) → IsAnswered o.status → held2 ≡ held → reads2 ≤ reads + most → faults2 ≡ faults → MakesOutput Q most (Ok o) held held2 reads reads2 faults faults2
@@ -40,21 +26,6 @@ makes Q most o held held2 reads reads2 faults faults2 is answered same read kept
       reads = read;
     }
 
--- the same of what may want memory, and else gives an output
-pub makes_or_wants : (Q : Held → Answer → Type 0) (most : ℕ) (r : Result Output OutputStop) (held held2 : Option Held) (reads reads2 faults faults2 : ℕ)
-    → IfSome held (λ h. IfOk r (λ o. Q h (answer_in o))) → IfOk r (λ o. IsAnswered o.status) → r ≢ Err stop.ReadFault → held2 ≡ held → reads2 ≤ reads + most → faults2 ≡ faults
-    → MakesOutput Q most r held held2 reads reads2 faults faults2
-makes_or_wants Q most r held held2 reads reads2 faults faults2 is answered other same read kept =
-    record {
-      output = is;
-      answered = answered;
-      read_fault = every held _ (λ h none fault. absurd (other fault));
-      held = same;
-      failed_once = inl kept;
-      kept = λ _. kept;
-      reads = read;
-    }
-
 -- a file that isn't held
 pub misses : (Q : Held → Answer → Type 0) (most : ℕ) (held held2 : Option Held) (reads reads2 faults faults2 : ℕ)
     → IfSome held (λ h. Q h not_held) → held2 ≡ held → reads2 ≤ reads + most → faults2 ≡ faults → MakesOutput Q most (Err stop.ReadFault) held held2 reads reads2 faults faults2
@@ -66,20 +37,6 @@ misses Q most held held2 reads reads2 faults faults2 is same read kept =
       held = same;
       failed_once = inl kept;
       kept = λ _. kept;
-      reads = read;
-    }
-
--- a read that failed
-pub fails : (Q : Held → Answer → Type 0) (most : ℕ) (held held2 : Option Held) (reads reads2 faults faults2 : ℕ)
-    → held2 ≡ held → reads2 ≤ reads + most → RoseByOne faults faults2 → MakesOutput Q most (Err stop.ReadFault) held held2 reads reads2 faults faults2
-fails Q most held held2 reads reads2 faults faults2 same read rose =
-    record {
-      output = every held _ (λ h. tt);
-      answered = tt;
-      read_fault = every held _ (λ h none fault. absurd (none (omega arith)));
-      held = same;
-      failed_once = inr rose;
-      kept = λ other. absurd (other refl);
       reads = read;
     }
 
@@ -99,8 +56,3 @@ goes_on P Q m n r held held1 held2 reads reads1 reads2 faults faults1 faults2 so
       kept = λ other. made.kept other ∙ kept;
       reads = omega arith;
     }
-
--- want of memory that was handed on
-pub handed_memory : (r : Result Output OutputStop) → IsErrAnd r (λ e. e ≡ stop.NoMemory) → r ≡ Err stop.NoMemory
-handed_memory (Ok o) h = absurd h
-handed_memory (Err e) h = ap Err h

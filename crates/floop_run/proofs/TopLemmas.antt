@@ -1,11 +1,9 @@
 -- The top call's clauses, from those of what it calls.
-use Rattle.std.proofs.Common.{◌≡◌, ◌≢◌, ◌∷◌, [], ◌++◌, ℕ, List, length, Option, Some, None, refl, ap, subst}
+use Rattle.std.proofs.Common.{◌≡◌, ◌≢◌, ◌∷◌, [], ◌++◌, ℕ, List, length, Option, Some, None, refl, ap, subst, arith}
 use Rattle.std.specs.Prelude.{IfSome, IfErr, Result, Ok, Err}
 use Rattle.edge_io.specs.Reading.{Held}
-use Rattle.edge_io.specs.Counts.{counted, counted_times}
+use Rattle.edge_io.specs.Counts.{counted, counted_times, DidNotRise, RoseByOne}
 use Rattle.floop_run.specs.declared.answer.Output.{Output}
-use Rattle.floop_run.specs.declared.answer.OutputStop.{OutputStop}
-use Rattle.floop_run.specs.declared.answer.OutputStop.TheVariants as stop
 use Rattle.floop_run.specs.declared.status.Status.{Status}
 use Rattle.floop_run.specs.declared.status.Status.TheVariants as status
 use Rattle.floop_run.specs.Outputs.{answer_in, lines_in}
@@ -14,22 +12,6 @@ use Rattle.floop_run.specs.Answers.{Answer, IsAnswer, refused, not_held}
 use Rattle.floop_run.specs.Results.{line}
 use Rattle.floop_run.specs.TopCall.{Gives, GivesAnswer, PutsEach, PutsPrefixOf, LastPutFailed, IsAnswered}
 use Rattle.floop_run.proofs.AnswerLemmas.{only_not_held}
-use Rattle.floop_run.proofs.PutLemmas.{Puts-nothing}
-use Rattle.floop_run.proofs.ReadLemmas.{every_of}
-
-gives_nothing : (words : List (List ℕ)) (held : Held) (written : Option (List ℕ)) → IsAnswer words held not_held → GivesAnswer words held status.ReadFault written written
-gives_nothing words held written is = (not_held, is, record { status = refl; text = Puts-nothing written })
-
-pub Gives-not_held : (A B C D : Type 0) (held : Option Held) (words : List (List ℕ)) (written : Option (List ℕ)) → IfSome held (λ h. B → A → IsAnswer words h not_held) → A → IfSome held (λ h. B → C → D → GivesAnswer words h status.ReadFault written written)
-Gives-not_held A B C D None words written is a = tt
-Gives-not_held A B C D (Some h) words written is a = λ b c d. gives_nothing words h written (is b a)
-
--- where an output was given
-pub Gives-output : (held : Option Held) (words : List (List ℕ)) (output : Output) (given : Status) (before now : Option (List ℕ)) (A B : Type 0) → IfSome held (λ h. IsAnswer words h (answer_in output)) →
-    (IsAnswered given → Gives (answer_in output) given before now) → (given ≢ status.WriteFault → given ≢ status.NoMemory → IsAnswered given) → (given ≡ status.WriteFault → B) →
-    IfSome held (λ h. (A → ⊥) → (B → ⊥) → given ≢ status.NoMemory → GivesAnswer words h given before now)
-Gives-output None words output given before now A B is gives cases fault = tt
-Gives-output (Some h) words output given before now A B is gives cases fault = λ a b ne. (answer_in output, is, gives (cases (λ e. b (fault e)) ne))
 
 -- an output is never given for a file that isn't held
 pub only_output : (held : Option Held) (words : List (List ℕ)) (output : Output) (given : Status) (A : Type 0) → IfSome held (λ h. IsAnswer words h (answer_in output)) → IsAnswered output.status →
@@ -43,15 +25,13 @@ pub prefix_of_refused : (request : Result Request (List ℕ)) (before now : Opti
 prefix_of_refused (Ok asked) before now output given is puts = tt
 prefix_of_refused (Err text) before now output given is puts = λ e. subst (λ a. PutsPrefixOf a before now) is (puts e)
 
--- what was given of an output is given of the answer that it is
-pub of_answer : (held : Option Held) (words : List (List ℕ)) (output : Output) (A : Type 0) (P : Answer → Type 0) → IfSome held (λ h. IsAnswer words h (answer_in output)) → (A → P (answer_in output))
-    → IfSome held (λ h. A → (answer : Answer) × IsAnswer words h answer × P answer)
-of_answer held words output A P is gives = every_of held _ _ (λ h one a. (answer_in output, one, gives a)) is
-
--- a read fault, where no read failed
-pub read_fault_is : (held : Option Held) (words : List (List ℕ)) (A : Type 0) → IfSome held (λ h. A → ◌≡◌ {A = Result Output OutputStop} (Err stop.ReadFault) (Err stop.ReadFault) → IsAnswer words h not_held)
-    → IfSome held (λ h. A → ◌≡◌ {A = Status} status.ReadFault status.ReadFault → IsAnswer words h not_held)
-read_fault_is held words A is = every_of held _ _ (λ h one a e. one a refl) is
+-- an output whose text is that of refused words gives their refusal, where no put failed
+pub refused_given : (request : Result Request (List ℕ)) (output : Output) (given : Status) (before now : Option (List ℕ)) (faults faults2 : ℕ) → IfErr request (λ text. answer_in output ≡ refused text)
+    → (IsAnswered given → Gives (answer_in output) given before now) → (given ≢ status.WriteFault → given ≢ status.NoMemory → IsAnswered given) → (given ≡ status.WriteFault → RoseByOne faults faults2)
+    → IfErr request (λ text. DidNotRise faults faults2 → given ≢ status.NoMemory → Gives (refused text) given before now)
+refused_given (Ok asked) output given before now faults faults2 is gives cases fault = tt
+refused_given (Err text) output given before now faults faults2 is gives cases fault =
+    λ none other. subst (λ a. Gives a given before now) is (gives (cases (λ e. let rose = fault e in none (omega arith)) other))
 
 -- of one line the last put that failed is the only one
 one_failed : (line : List ℕ) (before now : Option (List ℕ)) (puts puts2 : ℕ) → LastPutFailed (line ∷ []) before now puts puts2 → puts2 ≡ counted puts

@@ -3,8 +3,17 @@ ghost use Rattle.edge_io.specs.Counts.{counted, DidNotRise, RoseByOne, RoseByOne
 ghost use Rattle.program_words.specs.Words.{texts};
 ghost use Rattle.floop_run.specs.Answers.{IsAnswer, refused, not_held};
 ghost use Rattle.floop_run.specs.Requests.{request_in, most_reads};
-ghost use Rattle.floop_run.specs.TopCall.{Gives, GivesAnswer, PutsEach, PutsEachLine, PutsPrefixOf, PutsAnswerPrefix, LastPutFailed,
-    LastPutOfAnswerFailed, IsAnswered};
+ghost use Rattle.floop_run.specs.TopCall.{
+  Gives,
+  GivesAnswer,
+  PutsEach,
+  PutsEachLine,
+  PutsPrefixOf,
+  PutsAnswerPrefix,
+  LastPutFailed,
+  LastPutOfAnswerFailed,
+  IsAnswered,
+};
 ghost use Rattle.floop_run.specs.Outputs.{answer_in, lines_in};
 
 use crate::Status;
