@@ -1,6 +1,6 @@
 -- No expression that a legal loop may evaluate asks for a default: where it is evaluated the names in scope are bound to values of
 -- their kinds, and it has a kind under these.
-use Rattle.std.proofs.Common.{◌≡◌, ℕ, zero, suc, ◌+◌, ◌≤◌, true, List, [], ◌∷◌, ◌++◌, length, map, drop, length-take, length-drop, Some, sym, subst, append-nil, arith, codes}
+use Rattle.std.proofs.Common.{◌≡◌, ℕ, zero, suc, ◌+◌, ◌≤◌, true, List, [], ◌∷◌, ◌++◌, length, map, drop, length-take, length-drop, Some, sym, subst, append-nil, arith, codes, ℤ}
 use Rattle.std.specs.Prelude.{◌-◌, slice_get}
 use Rattle.std.specs.FinMap.{get}
 use Rattle.std.specs.List.{list_all, AllByRecursion}
@@ -111,10 +111,10 @@ module _ (test : Test) where
 
     statement_strict : {z : Statement} {run : BodyRun} {x : Expr} {names : Bindings} → InStatement z run x names → (scope : Scope) →
         AllByRecursion (Holds test) (statement_listing z scope).entries → run.flow ≡ Going → RunFits test [] scope run → IsStrict x names
-    statement_strict (InStatement.own layer {run = run} {x = x} {i = i} at) scope all on fit =
+    statement_strict (InStatement.own layer i {run = run} {x = x} at) scope all on fit =
         let here = subst (λ (l : Listing). AllByRecursion (Holds test) (l scope).entries) (fold-roll-Statement Listing Branched lines.statement_step lines.branch_step layer) all in
         strict x scope run.names (of_all (HasKind scope) (own_expressions layer) i x (own_kinded layer scope here) at) (fit.going on) fit.placed
-    statement_strict (InStatement.in_branch line else_line end_line branches other {i = i} {b = b} at inside) scope all on fit =
+    statement_strict (InStatement.in_branch line else_line end_line branches other i {b = b} at inside) scope all on fit =
         let here = subst (λ (l : Listing). AllByRecursion (Holds test) (l scope).entries)
         (fold-roll-Statement Listing Branched lines.statement_step lines.branch_step (s.If line branches else_line other end_line)) all in
         let first = all_front (Holds test) (branches_in_turn (codes "if") (map branch_listing branches) scope) (lines.in_turn (map statement_listing other) scope) here in
@@ -177,7 +177,7 @@ module _ (test : Test) (program : ProgramTree) (parts : PartsFit test program) (
     heads_strict (InHeads.in_body {run = run} inside) some now u st =
         let fit = bound_fit scope run.names (u.whole run.names st.bound tt) in
         block_strict test inside scope body_holds (record { around = none_agree (get run.names); placed = st.placed; going = λ on. fit; emitted = st.emitted })
-    heads_strict (InHeads.of_bound {head = head} {i = i} {run = run} {x = x} at) some now u st =
+    heads_strict (InHeads.of_bound i {head = head} {run = run} {x = x} at) some now u st =
         strict x now run.names (of_all (HasKind now) (range_bounds head.range) i x u.bounds.0 at) (bound_fit now run.names (u.here run.names st.bound)) st.placed
     heads_strict (InHeads.of_item is inside) some now u st = items_strict inside some now u st
 

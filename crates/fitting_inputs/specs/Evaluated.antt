@@ -82,10 +82,10 @@ mutual
   -- InStatement z run x names: from a body run that stands so, and goes on, the statement z may evaluate x, and `names` are then
   -- the names with their values.
   pub data InStatement : Statement → BodyRun → Expr → Bindings → Type 0 where
-    own : (layer : Statement-F Statement Branch) {run : BodyRun} {x : Expr} {i : ℕ} →
+    own : (layer : Statement-F Statement Branch) (i : ℕ) {run : BodyRun} {x : Expr} →
         slice_get (own_expressions layer) i ≡ Some x → InStatement (roll-Statement layer) run x run.names
     in_branch : (line else_line end_line : ℕ) (branches : List Branch) (other : List Statement)
-        {i : ℕ} {b : Branch} {run : BodyRun} {x : Expr} {names : Bindings} →
+        (i : ℕ) {b : Branch} {run : BodyRun} {x : Expr} {names : Bindings} →
         slice_get branches i ≡ Some b → InBranch b run x names →
         InStatement (roll-Statement (s.If line branches else_line other end_line)) run x names
     in_else : (line else_line end_line : ℕ) (branches : List Branch) (other : List Statement)
@@ -113,7 +113,7 @@ mutual
   pub data InHeads (program : ProgramTree) : List Inner → ℕ → BodyRun → Expr → Bindings → Type 0 where
     in_body : {width : ℕ} {run : BodyRun} {x : Expr} {names : Bindings} →
         InBlock program.body run x names → InHeads program [] width run x names
-    of_bound : {head : Inner} {heads : List Inner} {width i : ℕ} {run : BodyRun} {x : Expr} →
+    of_bound : (i : ℕ) {head : Inner} {heads : List Inner} {width : ℕ} {run : BodyRun} {x : Expr} →
         slice_get (range_bounds head.range) i ≡ Some x → InHeads program (head ∷ heads) width run x run.names
     of_item : {head : Inner} {heads : List Inner} {width : ℕ} {items : List ℤ} {run : BodyRun} {x : Expr} {names : Bindings} →
         inner_items head.range (get run.names) width ≡ Ok items →
