@@ -1,0 +1,11 @@
+pub mod Combining
+pub mod Neighbours
+pub mod Standing
+pub mod Sorting
+pub mod Counting
+pub mod Leaving
+pub mod Tallying
+pub mod Keeping
+pub mod Alone
+pub mod Once
+pub mod Together

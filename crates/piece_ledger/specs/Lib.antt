@@ -1,0 +1,9 @@
+pub mod Outcomes
+pub mod Logs
+pub mod Tallies
+pub mod Reports
+pub mod Pieces
+pub mod Beginning
+pub mod Kept
+pub mod Folded
+pub mod Laws
