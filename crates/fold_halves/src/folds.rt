@@ -1,7 +1,7 @@
 //! The fold, and its logs.
 
 ghost use Rattle.std.specs.Prelude.{◌≤◌, ◌*◌, IfOk};
-ghost use Rattle.splittable.specs.Ranges.{most_items};
+ghost use Rattle.number_ranges.specs.Ranges.{most_items};
 ghost use Rattle.splittable.specs.Places.{item_count};
 ghost use Rattle.piece_ledger.specs.Folded.{AreWhole, AnswersStand, AreRightOfStops, AreOrdered, AreFew};
 ghost use Rattle.piece_ledger.specs.Folded.{HaveLawfulTally, IsLawfulTally};

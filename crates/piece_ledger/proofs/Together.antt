@@ -5,7 +5,7 @@ use Rattle.std.specs.List.Sorted.{IsPermutation}
 use Rattle.std.proofs.lemmas.List.{append-nil}
 use Rattle.std.proofs.lemmas.List.Concat.{flat_map-append}
 use Rattle.std.proofs.lemmas.List.Elements.{All-nil, All-cons, All-append, All-head, All-tail, All-weaker, Contains-append_left, Contains-append_right}
-use Rattle.splittable.specs.Ranges.{most_items}
+use Rattle.number_ranges.specs.Ranges.{most_items}
 use Rattle.splittable.specs.Places.{item_count}
 use Rattle.splittable.specs.Parts.{Stretch, AreNeighbours}
 use Rattle.splittable.specs.Nodes.{IsNode, IsLeaf, leaves_of}

@@ -2,7 +2,7 @@
 -- Source: this project.
 use Rattle.std.specs.Prelude.{◌≡◌, ℕ, ◌+◌, ◌≤◌, ◌++◌, List, [], ◌∷◌, map, IsPermutation}
 use Rattle.std.specs.List.{All}
-use Rattle.splittable.specs.Ranges.{most_items}
+use Rattle.number_ranges.specs.Ranges.{most_items}
 use Rattle.splittable.specs.Places.{item_count}
 use Rattle.splittable.specs.Parts.{Stretch, AreNeighbours}
 use Rattle.splittable.specs.Nodes.{IsNode}
