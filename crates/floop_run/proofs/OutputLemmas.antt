@@ -1,8 +1,8 @@
 -- What the making of an output gives, from what its steps give.
-use Rattle.std.proofs.Common.{◌≡◌, ◌≢◌, ◌≤◌, ◌+◌, ℕ, Option, Result, Ok, Err, inl, inr, refl, ap, sym, subst, ◌∙◌, arith}
-use Rattle.std.specs.Prelude.{IfOk, IfSome, IsErrAnd, min}
+use Rattle.std.proofs.Common.{◌≡◌, ◌≤◌, ◌+◌, ℕ, Option, Result, Ok, Err, inl, subst, ◌∙◌, arith}
+use Rattle.std.specs.Prelude.{IfOk, IfSome}
 use Rattle.std.proofs.lemmas.Result.{IfOk-weaker}
-use Rattle.edge_io.specs.Counts.{counted, Rose, RoseByOne, RoseByOneAtMost, DidNotRise}
+use Rattle.edge_io.specs.Counts.{Rose, RoseByOneAtMost, DidNotRise}
 use Rattle.edge_io.specs.Reading.{Held}
 use Rattle.floop_run.specs.declared.answer.Output.{Output}
 use Rattle.floop_run.specs.declared.answer.OutputStop.{OutputStop}

@@ -1,15 +1,11 @@
 -- Puts one after another: what follows what was written.
 use Rattle.std.proofs.Common.{◌≡◌, ℕ, zero, suc, ◌+◌, ◌<◌, List, [], ◌∷◌, ◌++◌, length, map, take, drop, get_or, Option, Some, None, refl, sym, ap, subst, ◌∙◌, append_assoc, arith}
 use Rattle.std.specs.Prelude.{min, flat_map}
-use Rattle.std.proofs.lemmas.List.{append-nil, take_min, take-append-le}
+use Rattle.std.proofs.lemmas.List.{take_min, take-append-le}
 use Rattle.std.proofs.Math.Seq.{take-append-add}
 use Rattle.edge_io.specs.Counts.{counted, counted_times}
 use Rattle.edge_io.specs.Writing.{Puts, PutsPrefix}
 use Rattle.floop_run.specs.TopCall.{joined, LastPutFailed}
-
-pub Puts-nothing : (a : Option (List ℕ)) → Puts a a []
-Puts-nothing None = refl
-Puts-nothing (Some w) = ap Some (sym (append-nil w))
 
 pub Puts-append : (a b c : Option (List ℕ)) (x y : List ℕ) → Puts a b x → Puts b c y → Puts a c (x ++ y)
 Puts-append None b c x y p q = subst (λ t. Puts t c y) p q

@@ -10,7 +10,7 @@ use Rattle.floop_run.specs.Outputs.{answer_in, lines_in}
 use Rattle.program_words.specs.Requests.{Request}
 use Rattle.floop_run.specs.Answers.{Answer, IsAnswer, refused, not_held}
 use Rattle.floop_run.specs.Results.{line}
-use Rattle.floop_run.specs.TopCall.{Gives, GivesAnswer, PutsEach, PutsPrefixOf, LastPutFailed, IsAnswered}
+use Rattle.floop_run.specs.TopCall.{Gives, PutsEach, PutsPrefixOf, LastPutFailed, IsAnswered}
 use Rattle.floop_run.proofs.AnswerLemmas.{only_not_held}
 
 -- an output is never given for a file that isn't held

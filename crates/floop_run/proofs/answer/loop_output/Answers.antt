@@ -1,4 +1,4 @@
-use Rattle.std.proofs.Common.{◌≡◌, Err, ap, refl, arith, ◌∙◌}
+use Rattle.std.proofs.Common.{Err, ap, arith, ◌∙◌}
 use Rattle.edge_io.specs.declared.files.ReadStop.TheVariants as stop
 use Rattle.program_words.specs.Views.{request_seen}
 use Rattle.floop_run.specs.Requests.{loop_file}

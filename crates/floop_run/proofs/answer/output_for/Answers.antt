@@ -1,4 +1,4 @@
-use Rattle.std.proofs.Common.{◌≡◌, ◌≤◌, ◌+◌, Ok, ap, refl, sym, subst, arith}
+use Rattle.std.proofs.Common.{ap, refl, arith}
 use Rattle.program_words.specs.Words.{texts}
 use Rattle.program_words.specs.Views.{request_seen}
 use Rattle.floop_run.specs.Requests.{most_reads}
