@@ -26,7 +26,7 @@ pub record Gives (answer : Answer) (given : Status) (before now : Option (List �
 abbrev pub GivesAnswer : List (List ℕ) → Held → Status → Option (List ℕ) → Option (List ℕ) → Type 0
 GivesAnswer words held given before now = (answer : Answer) × IsAnswer words held answer × Gives answer given before now
 
--- the count of puts now: each of these lines was one put, and there was no other
+-- the count of puts now: as many puts were made as there are lines
 abbrev pub PutsEach : List (List ℕ) → ℕ → ℕ → Type 0
 PutsEach lines before now = now ≡ counted_times (length lines) before
 
@@ -43,8 +43,8 @@ abbrev pub PutsAnswerPrefix : List (List ℕ) → Held → Option (List ℕ) →
 PutsAnswerPrefix words held before now = (answer : Answer) × IsAnswer words held answer × PutsPrefixOf answer before now
 
 -- What was written and how many puts were made are those where the put of one line failed: the lines before it were put whole, a
--- prefix of it was kept, and no put came after. (A sink that failed and yet kept all isn't told apart; but the clause holds
--- for all sinks.)
+-- prefix of it was kept, and no put came after. (Where the put that failed kept its whole line, one more failed put that
+-- keeps nothing isn't told apart; but the clause is of all sinks, also of those that keep less.)
 pub record LastPutFailed (lines : List (List ℕ)) (before now : Option (List ℕ)) (puts puts_now : ℕ) : Type 0 where
   pub whole : List (List ℕ)
   pub failed : List ℕ

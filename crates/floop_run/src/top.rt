@@ -57,13 +57,13 @@ pub fn floop_words<F: Files, K: Sink>(
     ensures words_prefix { IfErr (request_in (texts words.now)) (λ text. result ≡ Status.WriteFault →
         PutsPrefixOf (refused text) (K.written out.old) (K.written out.new)) }
 
-    // Done, LoopFault and Refused come only as the answer, also where a count rose, and then each line was one put.
+    // Done, LoopFault and Refused come only as the answer, also where a count rose, and then there were as many puts as lines.
     ensures answered { IfSome (F.held files.old) (λ held. IsAnswered result →
         GivesAnswer (texts words.now) held result (K.written out.old) (K.written out.new)) }
     ensures put_each { IfSome (F.held files.old) (λ held. IsAnswered result →
         PutsEachLine (texts words.now) held (K.puts out.old) (K.puts out.new)) }
 
-    // ReadFault comes only after accepted words, and where no read failed exactly where the answer says so.
+    // ReadFault comes only after words that are a request, and where no read failed exactly where the answer says so.
     ensures read_fault_words { result ≡ Status.ReadFault → IsOk (request_in (texts words.now)) }
     ensures read_fault { IfSome (F.held files.old) (λ held.
         DidNotRise (F.faults files.old) (F.faults files.new) → result ≡ Status.ReadFault →

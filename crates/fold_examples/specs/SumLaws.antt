@@ -11,7 +11,8 @@ use Rattle.fold_seq.specs.Standing.{UnitStands, MergeStands, StopStands, StopLie
 use Rattle.fold_examples.specs.Sums.{sum_of_places, IsWrappedSum, SumStands}
 
 -- the sum of two stretches next to each other
-pub sum_of_places-add : (first n m : ℕ) → sum_of_places first (n + m) ≡ (sum_of_places first n + sum_of_places (first + n) m) % 2 ^ 64
+pub sum_of_places-add : (first n m : ℕ) → sum_of_places first (n + m)
+    ≡ (sum_of_places first n + sum_of_places (first + n) m) % 2 ^ 64
 sum_of_places-add first n m =
     let both : sum (numbers_from first (n + m)) ≡ sum (numbers_from first n) + sum (numbers_from (first + n) m) =
     ap sum (numbers_from-add first n m) ∙ sum_by-append (λ x. x) (numbers_from first n) (numbers_from (first + n) m) in
@@ -23,7 +24,8 @@ unfolding numbers_from
 sum_of_places-next first n =
     let one : sum (numbers_from (first + n) 1) ≡ first + n = omega arith in
     let both : sum (numbers_from first (n + 1)) ≡ sum (numbers_from first n) + (first + n) =
-    ap sum (numbers_from-add first n 1) ∙ sum_by-append (λ x. x) (numbers_from first n) (numbers_from (first + n) 1) ∙ ap (λ k. sum (numbers_from first n) + k) one in
+    ap sum (numbers_from-add first n 1) ∙ sum_by-append (λ x. x) (numbers_from first n) (numbers_from (first + n) 1)
+    ∙ ap (λ k. sum (numbers_from first n) + k) one in
     rw both (omega arith)
 
 pub sum_of_places-none : (first : ℕ) → 0 ≡ sum_of_places first 0

@@ -28,4 +28,5 @@ abbrev pub SumUntilStands : ℕ → ℕ → Option ℕ → ℕ → ℕ → Reduc
 SumUntilStands at line fault first n (Going total) = ((at < first) ⊎ (first + n ≤ at)) × (total ≡ sum_of_places first n)
 SumUntilStands at line fault first n (Stopped at' line' total) =
     (fault ≡ None) × (at' ≡ at) × (line' ≡ line) × IsReached at first n × (total ≡ sum_of_places first (at + 1 - first))
-SumUntilStands at line fault first n (Faulted at' line' kind) = (fault ≡ Some kind) × (at' ≡ at) × (line' ≡ line) × IsReached at first n
+SumUntilStands at line fault first n (Faulted at' line' kind) =
+    (fault ≡ Some kind) × (at' ≡ at) × (line' ≡ line) × IsReached at first n

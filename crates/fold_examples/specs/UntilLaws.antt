@@ -27,7 +27,8 @@ pub until_unit : (at line : ℕ) (fault : Option ℕ) → UnitStands (SumUntilSt
 unfolding numbers_from
 until_unit at line fault state first one h = (past at first, h)
 
-past_both : (at first n m : ℕ) → (at < first) ⊎ (first + n ≤ at) → (at < first + n) ⊎ (first + n + m ≤ at) → (at < first) ⊎ (first + (n + m) ≤ at)
+past_both : (at first n m : ℕ) → (at < first) ⊎ (first + n ≤ at) → (at < first + n) ⊎ (first + n + m ≤ at) →
+    (at < first) ⊎ (first + (n + m) ≤ at)
 past_both at first n m (inl before) h = inl before
 past_both at first n m (inr after) (inl within) = absurd (omega (arith, after, within))
 past_both at first n m (inr after) (inr later) = inr (omega (arith, later))
@@ -76,7 +77,8 @@ until_ends at line fault first n (Going _) (Going _) one h k = refl
 until_ends at line fault first n (Going _) (Stopped _ _ _) one h k = absurd (both_ways at first n h.0 k.3)
 until_ends at line fault first n (Going _) (Faulted _ _ _) one h k = absurd (both_ways at first n h.0 k.3)
 until_ends at line fault first n (Stopped _ _ _) (Going _) one h k = absurd (both_ways at first n k.0 h.3)
-until_ends at line fault first n (Stopped _ _ _) (Stopped _ _ _) one h k = ap₂ (λ a l. ends.Stopped a l) (h.1 ∙ sym k.1) (h.2 ∙ sym k.2)
+until_ends at line fault first n (Stopped _ _ _) (Stopped _ _ _) one h k =
+    ap₂ (λ a l. ends.Stopped a l) (h.1 ∙ sym k.1) (h.2 ∙ sym k.2)
 until_ends at line fault first n (Stopped _ _ _) (Faulted _ _ _) one h k = absurd (some_or_none fault _ h.0 k.0)
 until_ends at line fault first n (Faulted _ _ _) (Going _) one h k = absurd (both_ways at first n k.0 h.3)
 until_ends at line fault first n (Faulted _ _ _) (Stopped _ _ _) one h k = absurd (some_or_none fault _ k.0 h.0)

@@ -8,7 +8,8 @@ use Rattle.splittable.specs.Parts.{Stretch, HoldsPlace, last_place}
 abbrev pub leaves_up_to : ℕ → List Stretch → ℕ
 leaves_up_to place leaves = count_by (λ leaf. nat_le leaf.first place) leaves
 
--- Each of these leaves was run or skipped, so many were run, and those that were skipped lie right of a place and have so many items.
+-- Each of these leaves was run or skipped, so many were run, and those that were skipped lie right of a place and have so many
+-- items.
 pub record LeavesSkipped (leaves : List Stretch) (place ran skipped : ℕ) : Type 0 where
   pub run : List Stretch
   pub left : List Stretch

@@ -80,8 +80,10 @@ well_formed_tree = record {
 
 -- the lines of that tree
 abbrev pub its_lines : List NumberedLine
-its_lines = on 1 (l.For (record { names = codes "x" ∷ []; axes = upto 3 ∷ []; product = false; inner = [] })) ∷ on 2 (l.Let (codes "y" ∷ []) doubled) ∷ on 3 (l.If below) ∷
-    on 4 (l.Reduce (codes "s") summed None) ∷ on 5 (l.ElseIf second) ∷ on 6 l.Else ∷ on 7 l.Continue ∷ on 8 l.End ∷ on 9 (l.Reduce (codes "b") grouped None) ∷ on 10 l.End ∷ on 11 (l.Print (codes "s")) ∷ []
+its_lines = on 1 (l.For (record { names = codes "x" ∷ []; axes = upto 3 ∷ []; product = false; inner = [] })) ∷
+    on 2 (l.Let (codes "y" ∷ []) doubled) ∷ on 3 (l.If below) ∷
+    on 4 (l.Reduce (codes "s") summed None) ∷ on 5 (l.ElseIf second) ∷ on 6 l.Else ∷ on 7 l.Continue ∷ on 8 l.End ∷
+    on 9 (l.Reduce (codes "b") grouped None) ∷ on 10 l.End ∷ on 11 (l.Print (codes "s")) ∷ []
 
 -- an `if` on line n with one branch, which stands on line k
 abbrev pub if_on : ℕ → ℕ → List Statement → ℕ → List Statement → ℕ → Statement
@@ -111,21 +113,25 @@ inner_head = record { name = codes "i"; range = record { first = int 1; step = N
 
 -- the tree passes the test, and its lines are these; so its canonical text spells it
 abbrev pub PassesWhole : Type 0
-PassesWhole = (tree_lines well_formed_tree ≡ its_lines) × (is_well_formed well_formed_tree ≡ true) × SpellsProgram (canonical_text well_formed_tree) well_formed_tree
+PassesWhole = (tree_lines well_formed_tree ≡ its_lines) × (is_well_formed well_formed_tree ≡ true) ×
+    SpellsProgram (canonical_text well_formed_tree) well_formed_tree
 
 -- no reserved word is a name, nor is what begins with a digit or an `@`
 abbrev pub RefusesNames : Type 0
-RefusesNames = (is_name (codes "place") ≡ false) × (is_name (codes "for") ≡ false) × (is_name (codes "2x") ≡ false) × (is_name (codes "@item") ≡ false) × (is_name [] ≡ false) ×
+RefusesNames = (is_name (codes "place") ≡ false) × (is_name (codes "for") ≡ false) × (is_name (codes "2x") ≡ false) ×
+    (is_name (codes "@item") ≡ false) × (is_name [] ≡ false) ×
     (is_name (codes "places") ≡ true) × (is_name (codes "_2") ≡ true)
 
 -- numbers are of 64 bits, texts are UTF-8, and no other value is a literal
 abbrev pub RefusesLiterals : Type 0
-RefusesLiterals = (is_literal (val.Int (pos (2 ^ 63))) ≡ false) × (is_literal (val.Int (negsuc (2 ^ 63))) ≡ false) × (is_literal val.Nothing ≡ false) × (is_literal (val.Text (255 ∷ [])) ≡ false) ×
+RefusesLiterals = (is_literal (val.Int (pos (2 ^ 63))) ≡ false) × (is_literal (val.Int (negsuc (2 ^ 63))) ≡ false) ×
+    (is_literal val.Nothing ≡ false) × (is_literal (val.Text (255 ∷ [])) ≡ false) ×
     (is_literal (val.Int (negsuc (2 ^ 63 - 1))) ≡ true)
 
 -- tuples, patterns, zips, products and inner heads have as many parts as they may
 abbrev pub RefusesParts : Type 0
-RefusesParts = (is_expr (e.Tuple (int 1 ∷ [])) ≡ false) × (is_expr (e.Tuple (int 1 ∷ int 2 ∷ int 3 ∷ int 4 ∷ int 5 ∷ [])) ≡ false) ×
+RefusesParts = (is_expr (e.Tuple (int 1 ∷ [])) ≡ false) ×
+    (is_expr (e.Tuple (int 1 ∷ int 2 ∷ int 3 ∷ int 4 ∷ int 5 ∷ [])) ≡ false) ×
     (is_form (for_over [] (upto 3 ∷ []) false []) ≡ false) ×
     (is_form (for_over (codes "a" ∷ codes "b" ∷ codes "c" ∷ codes "d" ∷ codes "e" ∷ []) (upto 3 ∷ []) false []) ≡ false) ×
     (is_form (for_over (codes "x" ∷ []) (upto 3 ∷ upto 3 ∷ []) false []) ≡ false) ×
@@ -137,15 +143,18 @@ RefusesParts = (is_expr (e.Tuple (int 1 ∷ [])) ≡ false) × (is_expr (e.Tuple
 
 -- lines stand one below another, the first on line 1 or below
 abbrev pub RefusesOrder : Type 0
-RefusesOrder = (is_well_formed (loop (head_to 1) []) ≡ false) × (is_well_formed (loop (head_to 3) (s.Break 3 ∷ [])) ≡ false) × (are_lines 0 (on 0 l.End ∷ []) ≡ false)
+RefusesOrder = (is_well_formed (loop (head_to 1) []) ≡ false) ×
+    (is_well_formed (loop (head_to 3) (s.Break 3 ∷ [])) ≡ false) × (are_lines 0 (on 0 l.End ∷ []) ≡ false)
 
 -- an `if` has a branch, which stands on its line, and no block of `else` without `else`
 abbrev pub RefusesBranches : Type 0
-RefusesBranches = (is_well_formed (loop (head_to 4) (s.If 2 [] 0 [] 3 ∷ [])) ≡ false) × (is_well_formed (loop (head_to 5) (if_on 2 3 [] 0 [] 4 ∷ [])) ≡ false) ×
+RefusesBranches = (is_well_formed (loop (head_to 4) (s.If 2 [] 0 [] 3 ∷ [])) ≡ false) ×
+    (is_well_formed (loop (head_to 5) (if_on 2 3 [] 0 [] 4 ∷ [])) ≡ false) ×
     (is_well_formed (loop (head_to 5) (if_on 2 2 [] 0 (s.Break 3 ∷ []) 4 ∷ [])) ≡ false)
 
 -- sixteen blocks, four groups and 256 tokens that are no parentheses are the most
 abbrev pub RefusesDepth : Type 0
-RefusesDepth = (all_fit (map statement_fits (nested 15)) most_inside ≡ true) × (all_fit (map statement_fits (nested 16)) most_inside ≡ false) ×
+RefusesDepth = (all_fit (map statement_fits (nested 15)) most_inside ≡ true) ×
+    (all_fit (map statement_fits (nested 16)) most_inside ≡ false) ×
     (is_within (l.Reduce (codes "s") (groups 4) None) ≡ true) × (is_within (l.Reduce (codes "s") (groups 5) None) ≡ false) ×
     (is_within (l.If (nots 254)) ≡ true) × (is_within (l.If (nots 255)) ≡ false)
