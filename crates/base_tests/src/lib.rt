@@ -9,4 +9,6 @@ mod edge;
 #[cfg(test)]
 mod shapes;
 #[cfg(test)]
+mod tables;
+#[cfg(test)]
 mod words;
