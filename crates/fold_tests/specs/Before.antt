@@ -58,7 +58,7 @@ before_stop at line first n m (Faulted _ _ _) one stop h = absurd h
 pub before_lies : (at line : ℕ) → StopLies (SumBeforeStands at line)
 before_lies at line first n (Going _) one h = tt
 before_lies at line first n (Stopped _ _ _) one h = (omega (arith, h.0, h.2.0), omega (arith, h.0, h.2.1))
-before_lies at line first n (Faulted _ _ _) one h = tt
+before_lies at line first n (Faulted _ _ _) one h = absurd h
 
 -- a place isn't both reached and not
 both_ways : (at first n : ℕ) → (at < first) ⊎ (first + n ≤ at) → IsReached at first n → ⊥

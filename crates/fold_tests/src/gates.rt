@@ -8,10 +8,12 @@ use piece_ledger::Gate;
 use splittable::Shape;
 use std::sync::atomic::{AtomicU64, Ordering};
 
-/// Holds the first call until a second one has begun, for at most so many loads, and notes whether the limit was met.
+/// Holds the first call until a second one has begun, for at most so many loads. It notes the calls, the sum of their workers'
+/// numbers, and whether the limit was met.
 #[derive(Drop)]
 struct HoldsTheFirst {
     calls: AtomicU64,
+    workers: AtomicU64,
     limits: AtomicU64,
 }
 
@@ -22,19 +24,22 @@ impl HoldsTheFirst {
     fn new() -> HoldsTheFirst {
         HoldsTheFirst {
             calls: AtomicU64::new(0),
+            workers: AtomicU64::new(0),
             limits: AtomicU64::new(0),
         }
     }
 
-    /// How many calls came, and whether the limit was met.
-    fn noted(&self) -> (u64, bool) {
+    /// How many calls came, the sum of their workers' numbers, and whether the limit was met.
+    fn noted(&self) -> (u64, u64, bool) {
         let calls = self.calls.load(Ordering::SeqCst);
-        (calls, self.limits.load(Ordering::SeqCst) != 0)
+        let workers = self.workers.load(Ordering::SeqCst);
+        (calls, workers, self.limits.load(Ordering::SeqCst) != 0)
     }
 }
 
 impl Gate for HoldsTheFirst {
-    fn at_part(&self, _worker: u32, _first: u64) {
+    fn at_part(&self, worker: u32, _first: u64) {
+        self.workers.fetch_add(worker as u64, Ordering::SeqCst);
         if self.calls.fetch_add(1, Ordering::SeqCst) != 0 {
             return;
         }
@@ -56,9 +61,10 @@ fn two_threads_run_parts(rt: HostRuntime) -> Result<(), NoMemory> {
     let job = Sum { shape };
     let gate = HoldsTheFirst::new();
     fold_halves(&rt, rt.alloc(), &job, 1, 2, &gate)?;
-    assert_eq!(rt; gate.noted(), (2, false));
+    assert_eq!(rt; gate.noted(), (2, 0, false));
     let gate = HoldsTheFirst::new();
     fold_pool(&rt, &rt, rt.alloc(), &job, 1, 2, &gate)?;
-    assert_eq!(rt; gate.noted(), (2, false));
+    // The worker 0 and the worker 1.
+    assert_eq!(rt; gate.noted(), (2, 1, false));
     Ok(())
 }
