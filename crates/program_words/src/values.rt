@@ -14,7 +14,7 @@ use crate::{Executor, Request, Setting};
 fn number_or(default: u64, most: u64, value: Option<&str>) -> u64
     requires least { 1 ≤ default }
     requires most { default ≤ most }
-    ensures is { result ≡ read_or default (number_within 1 most) (option_copied value) }
+    ensures is { result ≡ read_or default (number_within 1 most) (option_copied value.entry) }
     ensures least { 1 ≤ result }
     ensures most { result ≤ most }
 {
