@@ -40,6 +40,7 @@ pub trait Runner {
 }
 
 /// Runs loops without waiting for other threads, but by joining its own.
+#[derive(Clone, Copy, Debug)]
 pub struct Direct<'a, R, G> {
     /// Where threads are had.
     pub rt: &'a R,
