@@ -1,9 +1,13 @@
 -- The top call's clauses, from those of what it calls.
-use Rattle.std.proofs.Common.{◌≡◌, ◌≢◌, ◌∷◌, [], ◌++◌, ℕ, List, length, Option, Some, None, refl, ap, subst, arith}
+use Rattle.std.proofs.Common.{◌≡◌, ◌≢◌, ◌∷◌, [], ◌++◌, ℕ, List, length, Option, Some, None, refl, sym, ap, subst, append-nil, arith}
 use Rattle.std.specs.Prelude.{IfSome, IfErr, Result, Ok, Err}
 use Rattle.edge_io.specs.Reading.{Held}
 use Rattle.edge_io.specs.Counts.{counted, counted_times, DidNotRise, RoseByOne}
 use Rattle.floop_run.specs.declared.answer.Output.{Output}
+use Rattle.floop_run.specs.declared.answer.OutputStop.{OutputStop}
+use Rattle.floop_run.specs.declared.answer.OutputStop.TheVariants as stop
+use Rattle.edge_io.specs.Writing.{Puts}
+use Rattle.floop_run.specs.Requests.{request_in}
 use Rattle.floop_run.specs.declared.status.Status.{Status}
 use Rattle.floop_run.specs.declared.status.Status.TheVariants as status
 use Rattle.floop_run.specs.Outputs.{IsOutputOf, written_in, lines_in}
@@ -11,8 +15,8 @@ use Rattle.program_words.specs.declared.command.Call.{Call}
 use Rattle.program_words.specs.Requests.{Request}
 use Rattle.floop_run.specs.Answers.{IsAnswer, not_held}
 use Rattle.floop_run.specs.Results.{line}
-use Rattle.floop_run.specs.Written.{Written, IsWritten}
-use Rattle.floop_run.specs.TopCall.{Gives, PutsEach, PutsPrefixOf, LastPutFailed, IsAnswered, refusal_written}
+use Rattle.floop_run.specs.Written.{Written, IsWritten, IsWrittenFor}
+use Rattle.floop_run.specs.TopCall.{Gives, PutsEach, PutsPrefixOf, LastPutFailed, IsAnswered, refusal_written, GivesAnswer}
 use Rattle.floop_run.proofs.AnswerLemmas.{only_not_held, status_written}
 
 -- an output is never given for a file that isn't held
@@ -21,6 +25,23 @@ pub only_output : (held : Option Held) (call : Call) (words : List (List ℕ)) (
 only_output None call words output given A is answered = tt
 only_output (Some h) call words output given A is answered =
     λ a missing ne. absurd (only_not_held call words h is.0 missing is.1 (subst IsAnswered (status_written call words is.0 (written_in output) is.2) answered))
+
+-- where the answer is that a file isn't held, nothing is written for it
+nothing_for : (r : Result Request (List ℕ)) → IsWrittenFor r not_held (record { status = status.ReadFault; lines = [] })
+nothing_for (Err text) = (refl, refl)
+nothing_for (Ok request) = record { status = refl; lines = refl }
+
+puts_nothing : (before : Option (List ℕ)) → Puts before before []
+puts_nothing None = refl
+puts_nothing (Some written) = ap Some (sym (append-nil written))
+
+-- what a read fault gives where the answer is that a file isn't held
+pub missing_given : (told : Option Held) (call : Call) (words : List (List ℕ)) (A B : Type 0) (r : Result Output OutputStop) (before : Option (List ℕ)) → r ≡ Err stop.ReadFault →
+    IfSome told (λ h. A → r ≡ Err stop.ReadFault → IsAnswer call words h not_held) →
+    IfSome told (λ h. A → B → status.ReadFault ≢ status.NoMemory → GivesAnswer call words h status.ReadFault before before)
+missing_given None call words A B r before e is = tt
+missing_given (Some h) call words A B r before e is =
+    λ a b other. (record { status = status.ReadFault; lines = [] }, (not_held, is a e, nothing_for (request_in call words)), record { status = refl; text = puts_nothing before })
 
 -- a failed put of the text of refused words leaves a prefix of it
 pub prefix_of_refused : (request : Result Request (List ℕ)) (before now : Option (List ℕ)) (output : Output) (given : Status) → IfErr request (λ text. written_in output ≡ refusal_written text) →

@@ -1,6 +1,6 @@
 -- The clauses of a top call, each by what the call is, its words, what files told before, the status that it gave, the counts
 -- of faults, of reads and of puts, and what was written. Source: this project.
-use Rattle.std.specs.Prelude.{◌≡◌, ◌≢◌, ℕ, ◌+◌, ◌≤◌, List, ◌∷◌, ◌++◌, Option, length, take, IfSome, IfErr, IsOk}
+use Rattle.std.specs.Prelude.{◌≡◌, ◌≢◌, ℕ, ◌+◌, ◌≤◌, List, [], ◌∷◌, ◌++◌, Option, length, take, IfSome, IfErr, IsOk}
 use Rattle.edge_io.specs.Counts.{counted, counted_times, DidNotRise, RoseByOne}
 use Rattle.edge_io.specs.Writing.{Puts, PutsPrefix}
 use Rattle.edge_io.specs.Reading.{Held}

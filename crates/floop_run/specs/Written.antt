@@ -5,16 +5,22 @@ use Rattle.edge_io.specs.Reading.{Held}
 use Rattle.program_words.specs.declared.command.Call.{Call}
 use Rattle.program_words.specs.Requests.{Request}
 use Rattle.program_words.specs.Values.{wants_report}
+use Rattle.loop_grammar.specs.declared.tree.ProgramTree.{ProgramTree}
+use Rattle.loop_meaning.specs.declared.runs.Run.{Run}
 use Rattle.piece_ledger.specs.declared.tallies.Tally.{Tally}
 use Rattle.floop_run.specs.declared.status.Status.{Status}
 use Rattle.floop_run.specs.Requests.{request_in}
 use Rattle.floop_run.specs.Folds.{Folded, IsLawfulFor, report_lines}
-use Rattle.floop_run.specs.Answers.{Answer, IsAnswer}
+use Rattle.floop_run.specs.Answers.{Answer, IsAnswer, ended_status, ended_lines}
 
 -- a status, and the lines that go with it, each with its LF
 pub record Written : Type 0 where
   pub status : Status
   pub lines : List (List ℕ)
+
+-- what is written of a run, but for what stands behind its lines
+abbrev pub ended_written : ProgramTree → Run → Written
+ended_written program run = record { status = ended_status run.stop; lines = ended_lines program run run.stop }
 
 -- the lines behind those of the answer: that of some report which is lawful for what the request folded, where it wants one
 abbrev pub AreBehind : Request → Folded → List (List ℕ) → Type 0

@@ -11,8 +11,8 @@ ghost use Rattle.program_words.specs.Views.{request_seen};
 ghost use Rattle.floop_run.specs.Results.{fault_text, fault_line, result_line, results_lines, skipped_lines};
 ghost use Rattle.floop_run.specs.Folds.{report_line, report_lines};
 ghost use Rattle.floop_run.specs.Rows.{AreResults, StandForSome, IsSomeEnd, IsRowEnd};
-ghost use Rattle.floop_run.specs.Answers.{ended_lines, ended_status, run_answer};
-ghost use Rattle.floop_run.specs.Written.{IsWrittenOf};
+ghost use Rattle.floop_run.specs.Answers.{run_answer};
+ghost use Rattle.floop_run.specs.Written.{IsWrittenOf, ended_written};
 ghost use Rattle.floop_run.specs.TopCall.{IsAnswered};
 ghost use Rattle.floop_run.specs.Outputs.{written_in, lines_in};
 
@@ -140,8 +140,8 @@ fn end_output(
     end: &PathEnd,
 ) -> Result<Output, NoMemory>
     requires { IsSomeEnd row.now end.now }
-    ensures answer { IfOk result (λ o. (run : Run) → IsRowEnd legal.now row.now run end.now → written_in o
-        ≡ record { status = ended_status run.stop; lines = ended_lines legal.now run run.stop }) }
+    ensures answer { IfOk result (λ o. (run : Run) → IsRowEnd legal.now row.now run end.now →
+        written_in o ≡ ended_written legal.now run) }
     ensures answered { IfOk result (λ o. IsAnswered o.status) }
 {
     match end {

@@ -28,6 +28,6 @@ returns-in-Err-TooLong g c =
     let q = request_seen c.args.request.now in
     let counted = c.read_named.ensures.reads in
     makes _ _ _ _ _ _ _ _ _ _
-    (every_of (g.F.Files.held c.args.files.now) _ _ (λ held is. refused_by q _ _ _ is c.in_ok-too_long-in-Err-TooLong.ensures.answer)
+    (every_of (g.F.Files.held c.args.files.now) _ _ (λ held is. refused_by q _ _ c.in_ok-too_long-in-Err-TooLong.field-0 is c.in_ok-too_long-in-Err-TooLong.ensures.answer)
     (long_file q (g.F.Files.held c.args.files.now) c.read_named.result c.loop_file-name.result.now (loop_file q) _ _ _ (c.in-Err-TooLong.is ∙ ap Err c.in-Err-TooLong.field-0-is) c.loop_file-name.ensures refl c.read_named.ensures.answer))
     c.in_ok-too_long-in-Err-TooLong.ensures.answered c.read_named.ensures.held (omega arith) (c.read_named.ensures.not_failed (λ e. absurd (cc)))

@@ -18,5 +18,5 @@ returns-in-Ok-clause-made g c =
 pub returns-in_ok-refusal_of-in-Err-clause-made : goal.returns-in_ok-refusal_of-in-Err-clause-made
 returns-in_ok-refusal_of-in-Err-clause-made g c =
     makes _ _ _ _ _ _ _ _ _ _
-    (every (g.F.Files.held c.args.files.now) _ (λ held. refused_output c.args.call (texts c.args.words.now) _ held _ c.in-Err.ensures.refusal c.in_ok-refusal_of-in-Err.ensures.answer))
+    (every (g.F.Files.held c.args.files.now) _ (λ held. refused_output c.args.call (texts c.args.words.now) _ held c.in_ok-refusal_of-in-Err.field-0 c.in-Err.ensures.refusal c.in_ok-refusal_of-in-Err.ensures.answer))
     c.in_ok-refusal_of-in-Err.ensures.answered refl (omega arith) refl

@@ -13,5 +13,5 @@ returns-in_ok-refusal_of-in-Err-Illegal g c =
     let found : c.check_program.result ≡ Err (legality.Illegal offence) = c.in-Err-Illegal.is ∙ ap Err c.in-Err-Illegal.field-0-is in
     makes _ _ _ _ _ _ _ _ _ _
     (every (g.F.Files.held c.args.files.now) _
-    (λ held. refused_by q _ _ _ (sym (illegal_is q held c.args.program c.check_program.result offence found (c.check_program.ensures.first offence))) c.in_ok-refusal_of-in-Err-Illegal.ensures.answer))
+    (λ held. refused_by q _ _ c.in_ok-refusal_of-in-Err-Illegal.field-0 (sym (illegal_is q held c.args.program c.check_program.result offence found (c.check_program.ensures.first offence))) c.in_ok-refusal_of-in-Err-Illegal.ensures.answer))
     c.in_ok-refusal_of-in-Err-Illegal.ensures.answered refl (omega arith) refl

@@ -18,5 +18,5 @@ returns-in_ok-refusal_of-in-Err g c =
     let q = request_seen c.args.request.now in
     let other : c.in-Err.why ≢ syntax.NoMemory = search rules in
     makes _ _ _ _ _ _ _ _ _ _
-    (every (g.F.Files.held c.args.files.now) _ (λ held. refused_by q _ _ _ (refused_text (c.in-Err.ensures.refused other)) c.in_ok-refusal_of-in-Err.ensures.answer))
+    (every (g.F.Files.held c.args.files.now) _ (λ held. refused_by q _ _ c.in_ok-refusal_of-in-Err.field-0 (refused_text (c.in-Err.ensures.refused other)) c.in_ok-refusal_of-in-Err.ensures.answer))
     c.in_ok-refusal_of-in-Err.ensures.answered refl (omega arith) refl
