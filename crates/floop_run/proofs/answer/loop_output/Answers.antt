@@ -1,6 +1,7 @@
 use Rattle.std.proofs.Common.{Err, refl, ap, arith, ◌∙◌}
 use Rattle.edge_io.specs.declared.files.ReadStop.TheVariants as stop
 use Rattle.program_words.specs.Views.{request_seen}
+use Rattle.floop_run.specs.Answers.{too_long_text}
 use Rattle.floop_run.specs.Requests.{loop_file}
 use Rattle.floop_run.proofs.ReadLemmas.{every_of, ok_err, ok_file, long_file, missing_file}
 use Rattle.floop_run.proofs.OutputLemmas.{goes_on, makes, misses, refused_by}
@@ -28,6 +29,6 @@ returns-in-Err-TooLong g c =
     let q = request_seen c.args.request.now in
     let counted = c.read_named.ensures.reads in
     makes _ _ _ _ _ _ _ _ _ _
-    (every_of (g.F.Files.held c.args.files.now) _ _ (λ held is. refused_by q _ _ c.in_ok-too_long-in-Err-TooLong.field-0 is c.in_ok-too_long-in-Err-TooLong.ensures.answer)
+    (every_of (g.F.Files.held c.args.files.now) _ _ (λ held is. refused_by q _ too_long_text c.in_ok-too_long-in-Err-TooLong.field-0 is c.in_ok-too_long-in-Err-TooLong.ensures.answer)
     (long_file q (g.F.Files.held c.args.files.now) c.read_named.result c.loop_file-name.result.now (loop_file q) _ _ _ (c.in-Err-TooLong.is ∙ ap Err c.in-Err-TooLong.field-0-is) c.loop_file-name.ensures refl c.read_named.ensures.answer))
     c.in_ok-too_long-in-Err-TooLong.ensures.answered c.read_named.ensures.held (omega arith) (c.read_named.ensures.not_failed (λ e. absurd (cc)))
