@@ -1,8 +1,9 @@
-//! The program `floop`: the system's files and standard output, the words, and the top call.
+//! The program `floop`: the system's threads, files and standard output, the words, and the top call.
 #![tactic(auto)]
 
 use edge_io::{HostFiles, HostSink};
 use floop_run::{Status, exit_code, floop_words};
+use piece_ledger::OpenGate;
 use std::alloc::AllocError;
 use std::env;
 use std::process::ExitCode;
@@ -23,5 +24,5 @@ fn run(rt: &HostRuntime) -> Result<Status, AllocError> {
     let words: Vec<String> = words.collect(alloc)?;
     let mut files = HostFiles::new(rt.clone()?);
     let mut out = HostSink::new(rt.clone()?);
-    Ok(floop_words(alloc, &words, &mut files, &mut out))
+    Ok(floop_words(rt, alloc, &words, &mut files, &mut out, &OpenGate))
 }

@@ -28,7 +28,7 @@ one_request r held a b no_request no_request = refl
 one_request r held a b (asked f) (asked g) = one_file _ held _ a b f g
 
 pub one_answer : OneAnswer
-one_answer words held a b x y = one_request (request_in words) held a b x y
+one_answer call words held a b x y = one_request (request_in call words) held a b x y
 
 bytes_some : (r : Request) (held : Held) (bytes : List ℕ) → (loop_file_limit < length bytes) ⊎ (length bytes ≤ loop_file_limit) → ((a : Answer) → IsFileAnswer r held (Some bytes) a → ⊥) → ⊥
 bytes_some r held bytes (inl lt) k = k _ (too_long lt)
@@ -43,4 +43,4 @@ request_some (Err text) held k = k (refused text) no_request
 request_some (Ok request) held k = file_some request held (get held (loop_file request)) (λ a f. k a (asked f))
 
 pub some_answer : SomeAnswer
-some_answer words held k = request_some (request_in words) held k
+some_answer call words held k = request_some (request_in call words) held k

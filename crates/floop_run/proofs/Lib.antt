@@ -5,5 +5,6 @@ mod LineLemmas
 mod OutputLemmas
 mod PutLemmas
 mod ReadLemmas
+mod ReportLemmas
 mod ResultLemmas
 mod TopLemmas

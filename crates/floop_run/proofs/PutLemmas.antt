@@ -5,7 +5,8 @@ use Rattle.std.proofs.lemmas.List.{take_min, take-append-le}
 use Rattle.std.proofs.Math.Seq.{take-append-add}
 use Rattle.edge_io.specs.Counts.{counted, counted_times}
 use Rattle.edge_io.specs.Writing.{Puts, PutsPrefix}
-use Rattle.floop_run.specs.TopCall.{joined, LastPutFailed}
+use Rattle.floop_run.specs.Written.{joined}
+use Rattle.floop_run.specs.TopCall.{LastPutFailed}
 
 pub Puts-append : (a b c : Option (List ℕ)) (x y : List ℕ) → Puts a b x → Puts b c y → Puts a c (x ++ y)
 Puts-append None b c x y p q = subst (λ t. Puts t c y) p q

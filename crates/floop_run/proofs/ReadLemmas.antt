@@ -6,9 +6,14 @@ use Rattle.std.proofs.lemmas.Bool.{leb-true, leb-false}
 use Rattle.edge_io.specs.declared.files.ReadStop.{ReadStop}
 use Rattle.edge_io.specs.declared.files.ReadStop.TheVariants as stop
 use Rattle.edge_io.specs.Reading.{Held, read_answer, Reads}
+use Rattle.program_words.specs.declared.command.Call.{Call}
 use Rattle.program_words.specs.Requests.{Request}
 use Rattle.floop_run.specs.Requests.{request_in}
 use Rattle.loop_syntax.specs.Programs.{loop_file_limit}
+use Rattle.floop_run.specs.declared.answer.Output.{Output}
+use Rattle.floop_run.specs.Outputs.{IsOutputOf, written_in}
+use Rattle.floop_run.specs.TopCall.{refusal_written}
+use Rattle.floop_run.specs.Written.{Written, IsWritten, IsWrittenOf, IsWrittenFor}
 use Rattle.floop_run.specs.Answers.{Answer, refused, not_held, too_long_text, IsTextAnswer, IsFileAnswer, missing, too_long, within, IsAskedAnswer, IsRequestAnswer, no_request, asked, IsAnswer}
 
 -- what holds of each holds of what is there
@@ -121,12 +126,19 @@ missing_file q held r name file before now e n reads = every_of held _ _ (λ h s
 -- ---- words
 
 -- from the file's answer to the words'
-request_answer : (words : List (List ℕ)) (r : Result Request (List ℕ)) (held : Held) (answer : Answer) → request_in words ≡ r → IsRequestAnswer r held answer → IsAnswer words held answer
-request_answer words r held answer e a = subst (λ x. IsRequestAnswer x held answer) (sym e) a
+request_answer : (call : Call) (words : List (List ℕ)) (r : Result Request (List ℕ)) (held : Held) (answer : Answer) → request_in call words ≡ r → IsRequestAnswer r held answer → IsAnswer call words held answer
+request_answer call words r held answer e a = subst (λ x. IsRequestAnswer x held answer) (sym e) a
 
-pub refused_answer : (words : List (List ℕ)) (text : List ℕ) (held : Held) (answer : Answer) → request_in words ≡ Err text → answer ≡ refused text → IsAnswer words held answer
-refused_answer words text held answer e is = request_answer words (Err text) held answer e (subst (IsRequestAnswer (Err text) held) (sym is) no_request)
+-- the output of a refusal of the words
+pub refused_output : (call : Call) (words : List (List ℕ)) (text : List ℕ) (held : Held) (o : Output) → request_in call words ≡ Err text → written_in o ≡ refusal_written text → IsOutputOf (IsAnswer call words held) (IsWritten call words) o
+refused_output call words text held o e same =
+    (refused text, request_answer call words (Err text) held (refused text) e no_request,
+    subst (λ r. IsWrittenFor r (refused text) (written_in o)) (sym e) (ap (λ (w : Written). w.status) same, ap (λ (w : Written). w.lines) same))
 
 -- the answer of the request that the words are is that of the words
-pub asked_answers : (words : List (List ℕ)) (q : Request) (held : Option Held) → request_in words ≡ Ok q → IfSome held (λ h. (answer : Answer) → IsAskedAnswer q h answer → IsAnswer words h answer)
-asked_answers words q held e = every held _ (λ h answer is. request_answer words (Ok q) h answer e (asked is))
+pub asked_answers : (call : Call) (words : List (List ℕ)) (q : Request) (held : Option Held) → request_in call words ≡ Ok q → IfSome held (λ h. (answer : Answer) → IsAskedAnswer q h answer → IsAnswer call words h answer)
+asked_answers call words q held e = every held _ (λ h answer is. request_answer call words (Ok q) h answer e (asked is))
+
+-- and what is written for the request is written for the words
+pub asked_written : (call : Call) (words : List (List ℕ)) (q : Request) → request_in call words ≡ Ok q → (answer : Answer) (written : Written) → IsWrittenOf q answer written → IsWritten call words answer written
+asked_written call words q e answer written is = subst (λ r. IsWrittenFor r answer written) (sym e) is

@@ -1,9 +1,10 @@
--- The answer of a call: its status and the lines that it writes, from the words and what files hold. No thread,
--- part or schedule is in it. Source: this project.
+-- The answer of a call: its status, its lines, and what was folded, from the words and what files hold. No thread, part or
+-- schedule is in it, nor the way in which a request asks for its fold. Source: this project.
 use Rattle.std.specs.Prelude.{◌≡◌, ℕ, ◌<◌, ◌≤◌, List, [], ◌∷◌, ◌++◌, length, codes, Option, Some, None, Result, Ok, Err}
 use Rattle.std.specs.FinMap.{get}
 use Rattle.std.specs.Fmt.{decimal}
 use Rattle.edge_io.specs.Reading.{Held}
+use Rattle.program_words.specs.declared.command.Call.{Call}
 use Rattle.program_words.specs.declared.command.Command.{Command}
 use Rattle.program_words.specs.declared.command.Command.TheVariants as command
 use Rattle.program_words.specs.Requests.{Request}
@@ -21,10 +22,9 @@ use Rattle.data_files.specs.declared.stop.DataStop.TheVariants as reading
 use Rattle.data_files.specs.Tables.{data_table}
 use Rattle.data_files.specs.Texts.{data_text}
 use Rattle.loop_items.specs.declared.refusal.HeadRefusal.{HeadRefusal}
+use Rattle.loop_items.specs.Heads.{Head, head_of}
 use Rattle.loop_items.specs.Refusals.{first_head_refusal}
 use Rattle.loop_items.specs.RefusalTexts.{refusal_text}
-use Rattle.loop_data.specs.declared.value.Value.{Value}
-use Rattle.loop_meaning.specs.Items.{items_of}
 use Rattle.loop_meaning.specs.declared.runs.Run.{Run}
 use Rattle.loop_meaning.specs.declared.runs.PlainStop.{PlainStop}
 use Rattle.loop_meaning.specs.declared.runs.PlainStop.TheVariants as stop
@@ -32,23 +32,29 @@ use Rattle.floop_run.specs.declared.status.Status.{Status}
 use Rattle.floop_run.specs.declared.status.Status.TheVariants as status
 use Rattle.floop_run.specs.Requests.{request_in, loop_file, data_names}
 use Rattle.floop_run.specs.Results.{line, results_lines, fault_line, whole_run, accepted_line}
+use Rattle.floop_run.specs.Folds.{Folded}
 
--- each line with its LF; a result may hold further LFs
+-- the lines, each with its LF, where a result may hold further LFs; and what was folded, where a loop was run
 pub record Answer : Type 0 where
   pub status : Status
   pub lines : List (List ℕ)
+  pub folded : Option Folded
+
+-- an answer that runs no loop
+abbrev pub plain : Status → List (List ℕ) → Answer
+plain given lines = record { status = given; lines = lines; folded = None }
 
 -- a refusal is one line
 abbrev pub refused : List ℕ → Answer
-refused text = record { status = status.Refused; lines = line text ∷ [] }
+refused text = plain status.Refused (line text ∷ [])
 
 -- the answer where a file that the call reaches isn't held: nothing is written
 abbrev pub not_held : Answer
-not_held = record { status = status.ReadFault; lines = [] }
+not_held = plain status.ReadFault []
 
--- what was done: its lines
+-- what was done without running a loop: its lines
 abbrev pub done : List (List ℕ) → Answer
-done lines = record { status = status.Done; lines = lines }
+done lines = plain status.Done lines
 
 -- what a loop file is called that is too long
 abbrev pub too_long_text : List ℕ
@@ -56,38 +62,57 @@ too_long_text = codes "loop file: over " ++ decimal loop_file_limit ++ codes " b
 
 -- ---- what runs
 
--- the answer of a run that ended so
-abbrev pub ended_answer : ProgramTree → Run → PlainStop → Answer
-ended_answer program run stop.Ran = done (results_lines program run)
-ended_answer program run (stop.Break at in_line) = done (results_lines program run)
-ended_answer program run (stop.Fault at in_line kind) =
-    record { status = status.LoopFault; lines = fault_line at in_line kind ∷ [] }
+-- the status of a run that ended so
+abbrev pub ended_status : PlainStop → Status
+ended_status (stop.Fault at in_line kind) = status.LoopFault
+ended_status _ = status.Done
 
-abbrev pub run_answer : ProgramTree → Run → Answer
-run_answer program run = ended_answer program run run.stop
+-- and its lines: the results, or the fault
+abbrev pub ended_lines : ProgramTree → Run → PlainStop → List (List ℕ)
+ended_lines program run (stop.Fault at in_line kind) = fault_line at in_line kind ∷ []
+ended_lines program run _ = results_lines program run
 
--- what the command writes of a legal program over its items
-abbrev pub command_answer : Command → ProgramTree → List Value → Answer
-command_answer command.Check program items = done (accepted_line program items ∷ [])
-command_answer command.Run program items = run_answer program (whole_run program items)
+-- what was folded: the program over the items of its head
+abbrev pub folded_over : ProgramTree → Head → Folded
+folded_over program head = record {
+  program = program;
+  items = head.items;
+  lens = head.lens;
+  stop = (whole_run program head.items).stop;
+}
+
+-- the answer of the run over a head
+abbrev pub run_answer : ProgramTree → Head → Answer
+run_answer program head =
+    let run = whole_run program head.items in
+    record {
+      status = ended_status run.stop;
+      lines = ended_lines program run run.stop;
+      folded = Some (folded_over program head);
+    }
+
+-- What the command writes of a legal program over its head. A command that reads a further file finds it in what is held.
+abbrev pub command_answer : Command → Request → Held → ProgramTree → Head → Answer
+command_answer command.Check request held program head = done (accepted_line program head.items ∷ [])
+command_answer command.Run request held program head = run_answer program head
 
 -- ---- refusals, in their order
 
 -- the head's first refusal, of its collections from left to right and then of its product; else what the command writes
-abbrev pub head_answer : Option HeadRefusal → Command → ProgramTree → Contents → Answer
-head_answer (Some why) asked program table = refused (refusal_text why)
-head_answer None asked program table = command_answer asked program (items_of program table)
+abbrev pub head_answer : Option HeadRefusal → Request → Held → ProgramTree → Contents → Answer
+head_answer (Some why) request held program table = refused (refusal_text why)
+head_answer None request held program table = command_answer request.command request held program (head_of program table)
 
 -- Why there is no table; else what follows from it. A read that failed and want of memory are no part of an answer.
-abbrev pub table_answer : Result Contents DataStop → Command → ProgramTree → Answer
-table_answer (Ok table) asked program = head_answer (first_head_refusal program table) asked program table
-table_answer (Err (reading.Refused why)) asked program = refused (data_text why)
-table_answer (Err _) asked program = not_held
+abbrev pub table_answer : Result Contents DataStop → Request → Held → ProgramTree → Answer
+table_answer (Ok table) request held program = head_answer (first_head_refusal program table) request held program table
+table_answer (Err (reading.Refused why)) request held program = refused (data_text why)
+table_answer (Err _) request held program = not_held
 
 -- the first offence; else what follows from the data files
 abbrev pub legal_answer : Option Offence → Request → Held → ProgramTree → Answer
 legal_answer (Some offence) request held program = refused (offence_text offence)
-legal_answer None request held program = table_answer (data_table (data_names request) held) request.command program
+legal_answer None request held program = table_answer (data_table (data_names request) held) request held program
 
 -- the answer of a request for the program that its loop file spells
 abbrev pub program_answer : Request → Held → ProgramTree → Answer
@@ -119,14 +144,15 @@ pub data IsRequestAnswer : Result Request (List ℕ) → Held → Answer → Typ
       IsAskedAnswer request held answer → IsRequestAnswer (Ok request) held answer
 
 -- The answer of a call with these words over these files.
-abbrev pub IsAnswer : List (List ℕ) → Held → Answer → Type 0
-IsAnswer words held answer = IsRequestAnswer (request_in words) held answer
+abbrev pub IsAnswer : Call → List (List ℕ) → Held → Answer → Type 0
+IsAnswer call words held answer = IsRequestAnswer (request_in call words) held answer
 
 -- words over files have one answer at most
 abbrev pub OneAnswer : Type 0
-OneAnswer = (words : List (List ℕ)) (held : Held) (answer also : Answer) →
-    IsAnswer words held answer → IsAnswer words held also → answer ≡ also
+OneAnswer = (call : Call) (words : List (List ℕ)) (held : Held) (answer also : Answer) →
+    IsAnswer call words held answer → IsAnswer call words held also → answer ≡ also
 
 -- no words over files are without an answer
 abbrev pub SomeAnswer : Type 0
-SomeAnswer = (words : List (List ℕ)) (held : Held) → ((answer : Answer) → IsAnswer words held answer → ⊥) → ⊥
+SomeAnswer = (call : Call) (words : List (List ℕ)) (held : Held) →
+    ((answer : Answer) → IsAnswer call words held answer → ⊥) → ⊥

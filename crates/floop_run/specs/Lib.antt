@@ -1,7 +1,9 @@
 pub mod Answers
+pub mod Folds
 pub mod Outputs
 pub mod Requests
 pub mod Results
 pub mod Rows
 pub mod StatusCodes
 pub mod TopCall
+pub mod Written

@@ -1,20 +1,15 @@
 -- What a request asks of the program.
 -- Source: this project.
 use Rattle.std.specs.Prelude.{ℕ, ◌+◌, List, [], length, unwrap_or, Option, Some, None, Result, Ok, Err}
-use Rattle.program_words.specs.declared.command.Call.TheVariants as call
-use Rattle.program_words.specs.declared.setting.Setting.{Setting}
+use Rattle.program_words.specs.declared.command.Call.{Call}
 use Rattle.program_words.specs.declared.setting.Setting.TheVariants as setting
-use Rattle.program_words.specs.Settings.{setting_name, names_in}
-use Rattle.program_words.specs.Words.{value_in}
+use Rattle.program_words.specs.Settings.{names_in}
+use Rattle.program_words.specs.Values.{value_of}
 use Rattle.program_words.specs.Requests.{Request, request_of}
 
--- what the words are to the program's call
-abbrev pub request_in : List (List ℕ) → Result Request (List ℕ)
-request_in words = request_of call.Direct words
-
--- the value that a request gives to a setting, if it gives one
-abbrev pub value_of : Setting → Request → Option (List ℕ)
-value_of s r = value_in (setting_name s) r.settings
+-- what the words are to a top call
+abbrev pub request_in : Call → List (List ℕ) → Result Request (List ℕ)
+request_in call words = request_of call words
 
 -- the loop file's name, which each command must be given
 abbrev pub loop_file : Request → List ℕ

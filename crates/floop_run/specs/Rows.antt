@@ -9,6 +9,9 @@ use Rattle.reducer_tower.specs.declared.row.Emitted.{Emitted as Input}
 use Rattle.reducer_tower.specs.Rows.{RowStands, starts_of}
 use Rattle.program_rows.specs.Pairs.{numbered}
 use Rattle.program_rows.specs.Rows.{row_of}
+use Rattle.loop_meaning.specs.declared.runs.Run.{Run}
+use Rattle.plain_path.specs.declared.fold.PathEnd.{PathEnd}
+use Rattle.plain_path.specs.Paths.{IsEnd}
 
 -- the states stand for these inputs
 abbrev pub StandFor : Row → RowState → List Input → Type 0
@@ -22,3 +25,12 @@ StandForSome row state = (inputs : List Input) × StandFor row state inputs
 pub record AreResults (program : ProgramTree) (row : Row) (state : RowState) (emitted : List Pair) : Type 0 where
   pub reducers : row.towers.items ≡ row_of program
   pub stands : StandFor row state (starts_of row.towers.items ++ numbered row.towers.items emitted)
+
+-- the end of a run into the row
+abbrev pub IsSomeEnd : Row → PathEnd → Type 0
+IsSomeEnd row end = (run : Run) × IsEnd row.towers.items run end
+
+-- the row is that of the program's reducers, and this is the end of the run into it
+pub record IsRowEnd (program : ProgramTree) (row : Row) (run : Run) (end : PathEnd) : Type 0 where
+  pub reducers : row.towers.items ≡ row_of program
+  pub ended : IsEnd row.towers.items run end

@@ -2,9 +2,8 @@
 
 ghost use Rattle.std.specs.Prelude.{◌≡◌, [], ◌∷◌, IfOk};
 ghost use Rattle.floop_run.specs.Results.{accepted_line};
-ghost use Rattle.floop_run.specs.Answers.{done};
 ghost use Rattle.floop_run.specs.TopCall.{IsAnswered};
-ghost use Rattle.floop_run.specs.Outputs.{answer_in};
+ghost use Rattle.floop_run.specs.Outputs.{written_in};
 
 use crate::Status;
 use crate::answer::{Output, one_line};
@@ -20,7 +19,8 @@ pub(crate) fn accepted_output(
     legal: &LegalProgram,
     head: &HeadItems<'_>,
 ) -> Result<Output, NoMemory>
-    ensures answer { IfOk result (λ o. answer_in o ≡ done (accepted_line legal.now head.now.items ∷ [])) }
+    ensures answer { IfOk result (λ o. written_in o
+        ≡ record { status = Status.Done; lines = accepted_line legal.now head.now.items ∷ [] }) }
     ensures answered { IfOk result (λ o. IsAnswered o.status) }
 {
     let items = head.count();

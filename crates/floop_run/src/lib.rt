@@ -11,6 +11,7 @@ mod laws;
 mod names;
 mod output;
 mod results;
+mod runner;
 mod status;
 mod top;
 

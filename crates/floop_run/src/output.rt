@@ -1,7 +1,8 @@
 ghost use Rattle.std.specs.Prelude.{◌≡◌, ◌≢◌, ◌≤◌, Err, OnOk, OnErr, ◌+◌, length, IfSome};
 ghost use Rattle.edge_io.specs.Counts.{RoseByOne};
 ghost use Rattle.edge_io.specs.Writing.{Puts, PutsPrefix};
-ghost use Rattle.floop_run.specs.TopCall.{joined, LastPutFailed, PutsEach};
+ghost use Rattle.floop_run.specs.Written.{joined};
+ghost use Rattle.floop_run.specs.TopCall.{LastPutFailed, PutsEach};
 ghost use Rattle.floop_run.specs.Outputs.{lines_in};
 
 use edge_io::{NoMemory, Sink, SinkFailed};

@@ -6,21 +6,28 @@ ghost use Rattle.loop_grammar.specs.SkippedFaults.{skips_faults};
 ghost use Rattle.loop_meaning.specs.declared.runs.Run.{Run};
 ghost use Rattle.loop_meaning.specs.declared.steps.Pair.{Pair};
 ghost use Rattle.plain_path.specs.Paths.{AreHeadItems};
-ghost use Rattle.floop_run.specs.Results.{fault_text, fault_line, result_line, results_lines, skipped_lines, whole_run};
-ghost use Rattle.floop_run.specs.Rows.{AreResults, StandForSome};
-ghost use Rattle.floop_run.specs.Answers.{done, run_answer};
+ghost use Rattle.program_words.specs.Values.{wants_report};
+ghost use Rattle.program_words.specs.Views.{request_seen};
+ghost use Rattle.floop_run.specs.Results.{fault_text, fault_line, result_line, results_lines, skipped_lines};
+ghost use Rattle.floop_run.specs.Folds.{report_line, report_lines};
+ghost use Rattle.floop_run.specs.Rows.{AreResults, StandForSome, IsSomeEnd, IsRowEnd};
+ghost use Rattle.floop_run.specs.Answers.{run_answer};
+ghost use Rattle.floop_run.specs.Written.{IsWrittenOf, ended_written};
 ghost use Rattle.floop_run.specs.TopCall.{IsAnswered};
-ghost use Rattle.floop_run.specs.Outputs.{answer_in, lines_in};
+ghost use Rattle.floop_run.specs.Outputs.{written_in, lines_in};
 
 use crate::Status;
 use crate::answer::{Output, one_line};
+use crate::runner::Runner;
 use edge_io::NoMemory;
 use legality_check::LegalProgram;
 use loop_data::PrintLine;
 use loop_items::HeadItems;
 use loop_syntax::Program;
-use plain_path::{PathEnd, fold_plain};
+use piece_ledger::Tally;
+use plain_path::PathEnd;
 use program_rows::row_of;
+use program_words::Request;
 use reducer_tower::{Row, RowState, RowStop};
 use std::alloc::{AllocError, Global};
 
@@ -113,7 +120,7 @@ fn done_output(
 ) -> Result<Output, NoMemory>
     requires { StandForSome row.now state.now }
     ensures answer { IfOk result (λ o. (run : Run) → AreResults legal.now row.now state.now run.emitted → skipped ≡ run.skipped →
-        answer_in o ≡ done (results_lines legal.now run)) }
+        written_in o ≡ record { status = Status.Done; lines = results_lines legal.now run }) }
     ensures answered { IfOk result (λ o. IsAnswered o.status) }
 {
     let program = legal.program();
@@ -125,22 +132,70 @@ fn done_output(
     })
 }
 
-/// The output of a run over the items of a head.
-pub(crate) fn run_output(
+/// The output of a run that ended so: its results, or its fault.
+fn end_output(
     alloc: Global,
+    legal: &LegalProgram,
+    row: &Row,
+    end: &PathEnd,
+) -> Result<Output, NoMemory>
+    requires { IsSomeEnd row.now end.now }
+    ensures answer { IfOk result (λ o. (run : Run) → IsRowEnd legal.now row.now run end.now →
+        written_in o ≡ ended_written legal.now run) }
+    ensures answered { IfOk result (λ o. IsAnswered o.status) }
+{
+    match end {
+        PathEnd::Done { state, skipped } => done_output(alloc, legal, row, state, *skipped),
+        PathEnd::Faulted { at, line, kind } => {
+            let line = fault_line(alloc, *at, *line, *kind)?;
+            one_line(alloc, Status::LoopFault, line)
+        }
+    }
+}
+
+/// The line of a report.
+fn report_line(alloc: Global, tally: Tally) -> Result<String, AllocError>
+    ensures { IfOk result (λ text. string_bytes text ≡ report_line tally) }
+{
+    let ran = tally.ran;
+    let skipped = tally.items_skipped;
+    format!(in alloc; "ran {ran}, items skipped {skipped}\n")
+}
+
+/// One line more, where the request wants a report.
+fn add_report(
+    alloc: Global,
+    request: &Request<'_>,
+    tally: Tally,
+    lines: &mut Vec<Vec<u8>>,
+) -> Result<(), NoMemory>
+    ensures { OnOk result (lines_in lines.new.items
+        ≡ lines_in lines.old.items ++ report_lines (wants_report (request_seen request.now)) tally) }
+{
+    if !request.wants_report() {
+        return Ok(());
+    }
+    let line = report_line(alloc, tally)?;
+    lines.push(line.into_bytes())?;
+    Ok(())
+}
+
+/// The output of a run over the items of a head.
+pub(crate) fn run_output<W: Runner>(
+    alloc: Global,
+    runner: &W,
+    request: &Request<'_>,
     legal: &LegalProgram,
     head: &HeadItems<'_>,
 ) -> Result<Output, NoMemory>
     requires { AreHeadItems legal.now head.now.items }
-    ensures answer { IfOk result (λ o. answer_in o ≡ run_answer legal.now (whole_run legal.now head.now.items)) }
+    ensures answer { IfOk result (λ o.
+        IsWrittenOf (request_seen request.now) (run_answer legal.now head.now) (written_in o)) }
     ensures answered { IfOk result (λ o. IsAnswered o.status) }
 {
     let row = row_of(alloc, legal)?;
-    match fold_plain(alloc, legal, head, &row)? {
-        PathEnd::Done { state, skipped } => done_output(alloc, legal, &row, &state, skipped),
-        PathEnd::Faulted { at, line, kind } => {
-            let line = fault_line(alloc, at, line, kind)?;
-            one_line(alloc, Status::LoopFault, line)
-        }
-    }
+    let (end, tally) = runner.run_loop(alloc, request, legal, head, &row)?;
+    let mut output = end_output(alloc, legal, &row, &end)?;
+    add_report(alloc, request, tally, &mut output.lines)?;
+    Ok(output)
 }

@@ -18,7 +18,8 @@ command_word command.Check = codes "check"
 
 -- the settings that a command has
 abbrev pub settings_of : Command → List Setting
-settings_of command.Run = setting.Loop ∷ setting.Data ∷ []
+settings_of command.Run =
+    setting.Loop ∷ setting.Data ∷ setting.Executor ∷ setting.Base ∷ setting.Workers ∷ setting.Report ∷ []
 settings_of command.Check = setting.Loop ∷ setting.Data ∷ []
 
 -- the settings that it must be given, in the order in which they are missed
@@ -39,3 +40,7 @@ is_served call.Waiting c = waits c
 -- the command that a word is, if it is one
 abbrev pub command_named : List ℕ → Option Command
 command_named word = find (λ c. bytes_eq (command_word c) word) commands
+
+-- whether a word is that of a command which the other call alone is to serve, and doesn't yet
+abbrev pub is_elsewhere : List ℕ → Bool
+is_elsewhere word = bytes_eq word (codes "pool")

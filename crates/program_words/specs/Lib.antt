@@ -1,6 +1,9 @@
 pub mod Commands
+pub mod Executors
+pub mod Numbers
 pub mod Refusals
 pub mod Requests
 pub mod Settings
+pub mod Values
 pub mod Views
 pub mod Words

@@ -6,7 +6,7 @@ use Rattle.program_words.specs.declared.command.Command.{Command}
 use Rattle.program_words.specs.declared.command.Call.{Call}
 use Rattle.program_words.specs.declared.command.Call.TheVariants as call
 use Rattle.program_words.specs.Settings.{setting_name, rule_of, is_allowed}
-use Rattle.program_words.specs.Commands.{settings_of, required_of, is_served, command_named}
+use Rattle.program_words.specs.Commands.{settings_of, required_of, is_served, command_named, is_elsewhere}
 use Rattle.program_words.specs.Words.{cut, value_in, setting_named, first_missing, first_of}
 
 -- a command with its settings, each `name=value`
@@ -48,7 +48,7 @@ no_word call.Waiting = codes "not served here"
 
 -- why there is no request whose first word is no command
 abbrev pub no_command : Call → List ℕ → List ℕ
-no_command call.Direct word = codes "unknown command: " ++ word
+no_command call.Direct word = if is_elsewhere word then codes "not served here" else codes "unknown command: " ++ word
 no_command call.Waiting word = codes "not served here"
 
 abbrev pub with_all : Command → List (List ℕ) → Option Setting → Result Request (List ℕ)

@@ -1,7 +1,7 @@
 //! The commands, and which settings each has.
 
 ghost use Rattle.std.specs.Prelude.{◌≡◌, bytes_eq, find};
-ghost use Rattle.program_words.specs.Commands.{command_word, settings_of, required_of, waits, is_served, command_named, commands};
+ghost use Rattle.program_words.specs.Commands.{command_word, settings_of, required_of, waits, is_served, is_elsewhere, command_named, commands};
 
 use crate::Setting;
 
@@ -29,6 +29,16 @@ const COMMANDS: [Command; 2] = [Command::Run, Command::Check];
 /// The settings of the commands that read a loop and its data.
 static LOOP_SETTINGS: [Setting; 2] = [Setting::Loop, Setting::Data];
 
+/// The settings of the command that folds a loop.
+static RUN_SETTINGS: [Setting; 6] = [
+    Setting::Loop,
+    Setting::Data,
+    Setting::Executor,
+    Setting::Base,
+    Setting::Workers,
+    Setting::Report,
+];
+
 /// The settings that these must be given, in the order in which they are missed.
 static LOOP_REQUIRED: [Setting; 1] = [Setting::Loop];
 
@@ -48,7 +58,7 @@ impl Command {
         ensures { result.now ≡ settings_of self }
     {
         match self {
-            Command::Run => &LOOP_SETTINGS,
+            Command::Run => &RUN_SETTINGS,
             Command::Check => &LOOP_SETTINGS,
         }
     }
@@ -101,4 +111,11 @@ pub(crate) fn command_named(word: &str) -> Option<Command>
     ensures { result ≡ command_named word.now }
 {
     find_command(&COMMANDS, word)
+}
+
+/// Whether a word is that of a command which the other call alone is to serve, and doesn't yet.
+pub(crate) fn is_elsewhere(word: &str) -> bool
+    ensures { result ≡ is_elsewhere word.now }
+{
+    word == "pool"
 }

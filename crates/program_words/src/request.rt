@@ -10,7 +10,7 @@ ghost use Rattle.program_words.specs.Requests.{value_refusal, name_refusal, word
 ghost use Rattle.program_words.specs.Requests.{no_command, checked, command_request, request_of};
 ghost use Rattle.program_words.specs.Views.{request_seen, answer_seen, pair_seen};
 
-use crate::command::command_named;
+use crate::command::{command_named, is_elsewhere};
 use crate::{Call, Command, Refusal, Setting};
 
 /// A command with its settings, as words give them.
@@ -173,6 +173,7 @@ fn no_command(call: Call, word: &str) -> Refusal<'_>
     ensures { refusal_text result ≡ no_command call word.now }
 {
     match call {
+        Call::Direct if is_elsewhere(word) => Refusal::NotServed,
         Call::Direct => Refusal::UnknownCommand(word),
         Call::Waiting => Refusal::NotServed,
     }

@@ -4,8 +4,17 @@ ghost use Rattle.std.specs.Prelude.{◌≡◌, length};
 ghost use Rattle.std.specs.List.{list_all};
 ghost use Rattle.program_words.specs.Settings.{setting_name, rule_of, is_allowed, is_name, names_in, are_names};
 
+use crate::executor::executor_named;
+use crate::number::{answer_named, number_within};
+
 /// The most files that one setting names.
 const MOST_NAMES: usize = 8;
+
+/// The largest base: as many items as a loop has at most.
+pub(crate) const MOST_BASE: u64 = 4_294_967_296;
+
+/// The most workers.
+pub(crate) const MOST_WORKERS: u64 = 32;
 
 /// A setting of a command, written `name=value`.
 #[derive(Clone, Copy, Debug, PartialEq, Eq)]
@@ -14,6 +23,14 @@ pub enum Setting {
     Loop,
     /// The data files, in order.
     Data,
+    /// In which way the loop is folded.
+    Executor,
+    /// Up to which length no part is halved, unless there are very many items.
+    Base,
+    /// How many workers there are.
+    Workers,
+    /// Whether a report follows the results.
+    Report,
 }
 
 /// What the value of a setting must be.
@@ -23,6 +40,12 @@ pub enum Rule {
     FileName,
     /// One to eight names of files, parted by commas, none of them empty.
     FileNames,
+    /// The word of an executor.
+    Executor,
+    /// A number of one to twenty digits between two, which count.
+    Number { least: u64, most: u64 },
+    /// `yes` or `no`.
+    YesNo,
 }
 
 impl Setting {
@@ -33,6 +56,10 @@ impl Setting {
         match self {
             Setting::Loop => "loop",
             Setting::Data => "data",
+            Setting::Executor => "executor",
+            Setting::Base => "base",
+            Setting::Workers => "workers",
+            Setting::Report => "report",
         }
     }
 
@@ -43,6 +70,16 @@ impl Setting {
         match self {
             Setting::Loop => Rule::FileName,
             Setting::Data => Rule::FileNames,
+            Setting::Executor => Rule::Executor,
+            Setting::Base => Rule::Number {
+                least: 1,
+                most: MOST_BASE,
+            },
+            Setting::Workers => Rule::Number {
+                least: 1,
+                most: MOST_WORKERS,
+            },
+            Setting::Report => Rule::YesNo,
         }
     }
 }
@@ -55,6 +92,9 @@ impl Rule {
         match self {
             Rule::FileName => is_name(value),
             Rule::FileNames => are_names(value),
+            Rule::Executor => executor_named(value).is_some(),
+            Rule::Number { least, most } => number_within(least, most, value).is_some(),
+            Rule::YesNo => answer_named(value).is_some(),
         }
     }
 }

@@ -4,7 +4,8 @@ use Rattle.std.specs.Fmt.{decimal}
 use Rattle.std.proofs.lemmas.Result.{IfOk-weaker}
 use Rattle.loop_meaning.specs.Reducers.{reducers_of}
 use Rattle.program_rows.proofs.RowLemmas.{row_counted}
-use Rattle.floop_run.specs.Answers.{done}
+use Rattle.floop_run.specs.declared.status.Status.TheVariants as status
+use Rattle.floop_run.specs.Written.{Written}
 use Rattle.floop_run.specs.Results.{line}
 use Rattle.floop_run.proofs.LineLemmas.{five_pieces}
 use Rattle.floop_run.proofs.accepted.accepted_output.Goals as goal
@@ -15,7 +16,8 @@ counted_line items reducers = line (codes "accepted: " ++ decimal items ++ codes
 
 pub returns-clause-answer : goal.returns-clause-answer
 returns-clause-answer c =
+    let with_line : List ℕ → Written = λ text. record { status = status.Done; lines = text ∷ [] } in
     let held : c.len-reducers.result ≡ length c.in_ok-row_of.field-0.towers.items = search rules in
     let reducers : c.len-reducers.result ≡ length (reducers_of c.args.legal.now) = held ∙ ap length c.in_ok-row_of.ensures ∙ row_counted c.args.legal.now in
     let pieces = five_pieces (codes "accepted: ") (decimal c.count-items.result) (codes " items, ") (decimal c.len-reducers.result) (codes " reducers") (10 ∷ []) in
-    IfOk-weaker c.one_line.result _ _ (λ o is. is ∙ ap (λ written. done (written ∷ [])) (c.in_ok-line.ensures.ok ∙ pieces ∙ ap₂ counted_line c.count-items.ensures.items reducers)) c.one_line.ensures
+    IfOk-weaker c.one_line.result _ _ (λ o is. is ∙ ap with_line (c.in_ok-line.ensures.ok ∙ pieces ∙ ap₂ counted_line c.count-items.ensures.items reducers)) c.one_line.ensures

@@ -1,7 +1,7 @@
 use Rattle.std.proofs.Common.{◌≡◌, ◌≤◌, length, take, drop}
 use Rattle.edge_io.specs.Counts.{counted_times}
 use Rattle.edge_io.specs.Writing.{Puts}
-use Rattle.floop_run.specs.TopCall.{joined}
+use Rattle.floop_run.specs.Written.{joined}
 use Rattle.floop_run.specs.Outputs.{lines_in}
 use Rattle.floop_run.proofs.output.put_lines.Given as goal
 

@@ -1,5 +1,5 @@
 use Rattle.std.proofs.Common.{◌≡◌, length, take}
-use Rattle.floop_run.specs.TopCall.{joined}
+use Rattle.floop_run.specs.Written.{joined}
 use Rattle.floop_run.specs.Outputs.{lines_in}
 use Rattle.floop_run.proofs.output.total_length.Given as goal
 
