@@ -1,12 +1,12 @@
 -- Laws of chains over lists of elements.
 -- Source: this project.
-use Rattle.std.specs.Prelude.{◌≡◌, ◌≤◌, false, true, List, ◌∷◌, ◌++◌, length}
+use Rattle.std.specs.Prelude.{None, ◌≡◌, ◌≤◌, false, true, List, ◌∷◌, ◌++◌, length}
 use Rattle.loop_values.specs.Bindings.{Bindings}
 use Rattle.chain_stages.specs.declared.step_end.StepEnd.{StepEnd}
 use Rattle.chain_stages.specs.declared.step_end.StepEnd.TheVariants.{Going}
 use Rattle.chain_stages.specs.declared.element.Element.{Element}
 use Rattle.chain_stages.specs.declared.stages.Stage.{Stage}
-use Rattle.chain_stages.specs.Cats.{cats_follow}
+use Rattle.chain_stages.specs.Cats.{CatsFollowNames, cats_follow}
 use Rattle.chain_stages.specs.Chains.{chain_output, followed_by, one_by_one}
 use Rattle.chain_stages.specs.Elements.{beginning, emitted_by}
 use Rattle.chain_stages.specs.Reduces.{all_reduces}
@@ -41,3 +41,7 @@ OneByOne = (stages : List Stage) (es : List Element) (end : StepEnd) → chain_o
 abbrev pub FewLeave : Type 0
 FewLeave = (stages : List Stage) (env : Bindings) → cats_follow false stages ≡ true → all_reduces stages ≤ 64 →
     length (emitted_by (chain_output stages (alone (beginning env))).elements) ≤ 64000000
+
+-- where each `Cat` comes right after the stage that sets the inner range of its name, elements may go through the chain
+abbrev pub NamesFollow : Type 0
+NamesFollow = (stages : List Stage) → CatsFollowNames None stages → cats_follow false stages ≡ true

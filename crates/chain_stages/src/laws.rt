@@ -1,7 +1,7 @@
 //! What holds of chains over lists of elements, for readers and for callers' proofs: each function is empty, and its contract is
 //! the law.
 
-ghost use Rattle.chain_stages.specs.Laws.{ChainsInTurn, EndStandsLast, FewLeave, OneByOne, OneElement, TwoLists};
+ghost use Rattle.chain_stages.specs.Laws.{ChainsInTurn, EndStandsLast, FewLeave, NamesFollow, OneByOne, OneElement, TwoLists};
 
 use crate::Stage;
 use loop_data::laws::is_shared;
@@ -30,6 +30,11 @@ pub fn a_chain_goes_element_by_element()
 /// after the stage that sets its range.
 pub fn few_pairs_leave_a_chain()
     ensures { FewLeave }
+{}
+
+/// Where each `Cat` comes right after the stage that sets the inner range of its name, it comes right after one that sets a range.
+pub fn cats_of_their_names_follow()
+    ensures { NamesFollow }
 {}
 
 /// Threads share stages, and hand them to each other.

@@ -5,11 +5,13 @@
 //! Chains), and what follows from that in [`laws`]. The code that takes elements through a chain stands in the crate above.
 #![tactic(auto)]
 
+mod cats;
 mod element;
 pub mod laws;
 mod stages;
 mod step_end;
 
+pub use cats::cats_follow;
 pub use element::{Element, Mark};
 pub use stages::{Doing, Source, Stage, Test};
 pub use step_end::StepEnd;
