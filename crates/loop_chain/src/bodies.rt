@@ -3,7 +3,7 @@
 ghost use Rattle.std.specs.Prelude.{◌≡◌, ◌++◌, ◌∷◌, [], IfOk, OnOk};
 ghost use Rattle.chain_stages.specs.declared.stages.Stage.TheVariants as stage;
 ghost use Rattle.chain_stages.specs.declared.stages.Doing.TheVariants as doing;
-ghost use Rattle.loop_stages.specs.Lowering.{body_stages, inner_stages, lowered, pattern_stages, rest_stages};
+ghost use Rattle.loop_stages.specs.Lowering.{body_stages, inner_stages, lowered, most_before_split, pattern_stages, rest_stages};
 
 use crate::holding::held_in;
 use crate::statements::{line_of, push, push_statement};
@@ -34,7 +34,7 @@ fn push_rest(
 
 /// The stages of a body: of each statement before the split statement, and from there on of all the rest together.
 fn push_body(alloc: Global, body: &[Statement], stages: &mut Vec<Stage>) -> Result<(), NoMemory>
-    ensures { OnOk result (stages.new.items ≡ stages.old.items ++ body_stages 64 body.now) }
+    ensures { OnOk result (stages.new.items ≡ stages.old.items ++ body_stages most_before_split body.now) }
 {
     let mut room = MOST_BEFORE_SPLIT;
     for before in 0..body.len() {
