@@ -1,0 +1,3 @@
+pub mod Closing
+pub mod Feeding
+pub mod Lists
