@@ -10,11 +10,11 @@ ghost use Rattle.transducer_kit.specs.declared.keeping_something.KeepingSomethin
 ghost use Rattle.transducer_kit.specs.declared.map_splatting.MapSplatting.{MapSplatting};
 ghost use Rattle.transducer_kit.specs.declared.mapping.Mapping.{Mapping};
 ghost use Rattle.transducer_kit.specs.declared.reducing_if.ReducingIf.{ReducingIf};
-ghost use Rattle.transducer_kit.specs.Laws.{IsItsRule, IsItsSpread};
+ghost use Rattle.transducer_kit.specs.Laws.{FewMayFold, IsItsRule, IsItsSpread};
 ghost use Rattle.transducer_kit.specs.Passing.{AtShown, MayShow, one_ended, one_kept, one_made, one_tested};
 
 use crate::{
-    Catting, Closed, Filtering, KeepingSomething, MapSplatting, Mapping, PassStop, Reducing,
+    Catting, Chain, Closed, Filtering, KeepingSomething, MapSplatting, Mapping, PassStop, Reducing,
     ReducingIf, Taking,
 };
 use loop_data::Value;
@@ -76,4 +76,15 @@ pub fn threads_share_wrappers<A: Send + Sync, F: Send + Sync, R: Send + Sync>() 
     is_shared::<ReducingIf<F, R>>();
     is_shared::<Closed<R>>();
     is_shared::<Taking<A>>();
+}
+
+/// States that stand for at most 2^61 - 64,000,000 inputs have room for the pairs of one item, where each `Cat` comes right after
+/// a range and the stages hold at most 64 `@reduce` lines.
+pub fn few_pairs_may_be_folded()
+    ensures { FewMayFold }
+{}
+
+/// Threads share a chain, and hand it to each other.
+pub fn threads_share_chains() {
+    is_shared::<Chain>();
 }

@@ -6,5 +6,5 @@ use Rattle.transducer_kit.proofs.chain.Chain.text.Given as goal
 abbrev pub invariant-loop-stage : goal.invariant-loop-stage
 invariant-loop-stage l = record {
   number : l.number ≡ l.stage-index;
-  whole : l.text.items ++ lines_from (l.number + 1) (drop l.stage-index l.self.stages.items) ≡ chain_text l.self.stages.items;
+  whole : l.text.items ++ lines_from (l.number + 1) (drop l.stage-index l.self.stages) ≡ chain_text l.self.stages;
 }
