@@ -1,9 +1,8 @@
 -- What the statements of a stage leave of an element.
-use Rattle.std.proofs.Common.{◌≡◌, [], ◌++◌, sym, ap, ◌∙◌, append-nil}
+use Rattle.std.proofs.Common.{◌≡◌, [], sym, ap, ◌∙◌, append-nil}
 use Rattle.loop_data.specs.declared.statement.Statement.{Statement}
 use Rattle.loop_meaning.specs.declared.steps.BodyRun.{BodyRun}
 use Rattle.loop_meaning.specs.declared.steps.Flow.TheVariants as flow
-use Rattle.loop_meaning.specs.Laws.{behind}
 use Rattle.loop_meaning.specs.Statements.{statement_run}
 use Rattle.loop_meaning.proofs.BehindLemmas.{statement_behind}
 use Rattle.chain_stages.specs.declared.element.Element.{Element}

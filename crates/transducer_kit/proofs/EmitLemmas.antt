@@ -1,5 +1,5 @@
 -- Outputs one after another, with the pairs of what left each behind those before.
-use Rattle.std.proofs.Common.{◌≡◌, List, [], ◌∷◌, ◌++◌, refl, sym, ap, subst, ◌∙◌, append_assoc, append-nil}
+use Rattle.std.proofs.Common.{◌≡◌, List, ◌++◌, refl, sym, ap, subst, ◌∙◌, append_assoc, append-nil}
 use Rattle.loop_meaning.specs.declared.steps.Pair.{Pair}
 use Rattle.chain_stages.specs.declared.step_end.StepEnd.{StepEnd}
 use Rattle.chain_stages.specs.declared.step_end.StepEnd.TheVariants.{Going, Ended, Fault}

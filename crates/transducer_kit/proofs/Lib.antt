@@ -5,4 +5,3 @@ pub mod Feeding
 pub mod Lists
 pub mod SpreadLemmas
 pub mod StepLemmas
-pub mod TakeLemmas

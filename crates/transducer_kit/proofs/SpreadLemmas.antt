@@ -1,18 +1,17 @@
 -- The elements for the items of an inner range, one after another.
-use Rattle.std.proofs.Common.{◌≡◌, ℕ, zero, suc, ◌+◌, ◌-◌, ◌*◌, ◌<◌, ◌≤◌, Bool, true, false, List, [], ◌∷◌, ◌++◌, length, map, take, drop, Option, Some, None, Result, Ok, Err, true≢false, refl, sym, ap, subst, ◌∙◌, add-one, append-nil, append_assoc, length-append, arith}
-use Rattle.std.specs.Prelude.{ℤ, IfOk, OnOk}
+use Rattle.std.proofs.Common.{◌≡◌, ℕ, ◌+◌, ◌<◌, ◌≤◌, true, false, List, [], ◌∷◌, map, drop, Result, Ok, Err, true≢false, refl, sym, ap, subst, ◌∙◌, arith}
+use Rattle.std.specs.Prelude.{ℤ, IfOk}
 use Rattle.std.proofs.Math.Nat.{mul-le-mul}
 use Rattle.std.proofs.lemmas.List.{drop_all}
-use Rattle.number_ranges.specs.Ranges.{items_from, range_item}
+use Rattle.number_ranges.specs.Ranges.{range_item}
 use Rattle.loop_meaning.specs.declared.steps.Pair.{Pair}
-use Rattle.loop_values.specs.declared.ranges.InnerRange.{InnerRange}
 use Rattle.loop_values.specs.InnerItems.{items_of}
 use Rattle.loop_meaning.proofs.HeadLemmas.{length-items, one_item}
 use Rattle.chain_stages.specs.declared.step_end.StepEnd.{StepEnd}
 use Rattle.chain_stages.specs.declared.step_end.StepEnd.TheVariants.{Going, Ended, Fault}
 use Rattle.chain_stages.specs.declared.element.Element.{Element}
 use Rattle.chain_stages.specs.declared.stages.Stage.{Stage}
-use Rattle.chain_stages.specs.Chains.{after_end, chain_output, followed_by}
+use Rattle.chain_stages.specs.Chains.{chain_output, followed_by}
 use Rattle.chain_stages.specs.Stages.{Output, alone, nothing, output, spread}
 use Rattle.transducer_kit.specs.Steps.{Emits, end_is_going, unless_ended}
 use Rattle.transducer_kit.specs.Enters.{Enters}

@@ -1,14 +1,14 @@
 -- One element through the stages, one after another.
-use Rattle.std.proofs.Common.{◌≡◌, ℕ, suc, ◌+◌, ◌<◌, ◌≤◌, Bool, true, false, List, [], ◌∷◌, ◌++◌, length, map, take, drop, get_or, Option, Some, None, refl, sym, ap, subst, ◌∙◌, add-one, append-nil, length-append, arith}
-use Rattle.std.specs.Prelude.{◌&&◌, ℤ}
+use Rattle.std.proofs.Common.{◌≡◌, ℕ, suc, ◌+◌, ◌<◌, Bool, true, false, List, [], ◌∷◌, length, map, drop, get_or, Option, Some, None, refl, sym, ap, subst, ◌∙◌, add-one}
+use Rattle.std.specs.Prelude.{◌&&◌}
 use Rattle.std.proofs.Math.Seq.{drop-cons}
 use Rattle.loop_meaning.specs.declared.steps.Pair.{Pair}
 use Rattle.chain_stages.specs.declared.step_end.StepEnd.{StepEnd}
-use Rattle.chain_stages.specs.declared.step_end.StepEnd.TheVariants.{Going, Ended, Fault}
+use Rattle.chain_stages.specs.declared.step_end.StepEnd.TheVariants.{Going}
 use Rattle.chain_stages.specs.declared.element.Element.{Element}
 use Rattle.chain_stages.specs.declared.stages.Stage.{Stage}
 use Rattle.chain_stages.specs.declared.stages.Stage.TheVariants.{Map, MapSplat, Filter, KeepSomething, Cat, ReduceIf}
-use Rattle.chain_stages.specs.Chains.{after_end, chain_output, followed_by}
+use Rattle.chain_stages.specs.Chains.{chain_output, followed_by}
 use Rattle.chain_stages.specs.Cats.{cat_name, cats_follow, is_inner, may_follow}
 use Rattle.transducer_kit.specs.Enters.{Enters, MayEnter}
 use Rattle.loop_values.specs.InnerItems.{items_of}

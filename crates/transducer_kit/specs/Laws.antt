@@ -1,7 +1,6 @@
 -- Laws of the wrappers over lists of items, and of the room that a chain's pairs of one item want.
 -- Source: this project, after Transducers.jl.
-use Rattle.std.specs.Prelude.{◌≡◌, ◌≤◌, ◌+◌, ◌^◌, ℕ, true, false, List, [], ◌++◌, length, Result}
-use Rattle.std.specs.List.{AllByRecursion}
+use Rattle.std.specs.Prelude.{◌≡◌, ◌≤◌, ◌+◌, ◌^◌, ℕ, true, false, List, length, Result}
 use Rattle.loop_values.specs.Bindings.{Bindings}
 use Rattle.reducer_tower.specs.declared.named.Named.{Named}
 use Rattle.reducer_tower.specs.declared.row.Emitted.{Emitted}
@@ -14,7 +13,7 @@ use Rattle.chain_stages.specs.Reduces.{all_reduces}
 use Rattle.transducer_kit.specs.declared.answers.PassStop.{PassStop}
 use Rattle.transducer_kit.specs.Answers.{Answer}
 use Rattle.transducer_kit.specs.Items.{MayFold, item_pairs}
-use Rattle.transducer_kit.specs.Lists.{AgreesOn, ElementsAgreeOn, TakesAll, elements, list_output}
+use Rattle.transducer_kit.specs.Lists.{AgreesOn, ElementsAgreeOn, elements, list_output}
 use Rattle.transducer_kit.specs.Passing.{Feeds, FeedsAll, Passed}
 
 -- Where the closure's answers at the items are those of a stage, folding the items through the wrapper is folding into the inner

@@ -6,7 +6,7 @@ use Rattle.loop_values.specs.declared.stop.EvalStop.TheVariants as eval_stop
 use Rattle.loop_values.specs.Stops.{fault_number}
 use Rattle.loop_meaning.specs.declared.steps.Pair.{Pair}
 use Rattle.chain_stages.specs.declared.step_end.StepEnd.{StepEnd}
-use Rattle.chain_stages.specs.declared.step_end.StepEnd.TheVariants.{Going, Ended, Fault}
+use Rattle.chain_stages.specs.declared.step_end.StepEnd.TheVariants.{Going, Fault}
 use Rattle.transducer_kit.specs.declared.answers.PassStop.{PassStop}
 use Rattle.transducer_kit.specs.declared.answers.PassStop.TheVariants as stop
 use Rattle.chain_stages.specs.declared.element.Element.{Element}

@@ -60,12 +60,7 @@ impl Chain {
     /// pairs of the elements before it.
     ///
     /// Refused only for want of memory: then the list can only be dropped.
-    pub fn emit(
-        &self,
-        alloc: Global,
-        env: Env,
-        pairs: &mut Many<Pair>,
-    ) -> Result<StepEnd, NoMemory>
+    pub fn emit(&self, alloc: Global, env: Env, pairs: &mut Many<Pair>) -> Result<StepEnd, NoMemory>
         requires cats { cats_follow false self.now.stages ≡ true }
         ensures end { IfOk result (λ end. end ≡ (item_output self.now.stages env).end) }
         ensures pairs { OnOk result (pairs.new ≡ pairs.old ++ item_pairs self.now.stages env) }

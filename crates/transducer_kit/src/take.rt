@@ -10,8 +10,12 @@ ghost use Rattle.chain_stages.specs.Stages.{alone, filtered, kept, map_splatted,
 ghost use Rattle.loop_meaning.specs.Statements.{with_parts};
 ghost use Rattle.transducer_kit.specs.Steps.{let_through};
 
-use crate::actions::{into_parts, item_parts, keep_value, map_element, passes, splat_parts, stopped_at};
-use crate::{Filtering, KeepingSomething, MapSplatting, Mapping, PassStop, Reducing, ReducingIf, Taking};
+use crate::actions::{
+    into_parts, item_parts, keep_value, map_element, passes, splat_parts, stopped_at,
+};
+use crate::{
+    Filtering, KeepingSomething, MapSplatting, Mapping, PassStop, Reducing, ReducingIf, Taking,
+};
 use chain_stages::{Doing, Element, Source, Stage, StepEnd, Test};
 use loop_data::{Expr, Many, TextValue, Value};
 use loop_values::eval;

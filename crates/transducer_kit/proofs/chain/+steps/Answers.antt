@@ -1,6 +1,5 @@
-use Rattle.std.proofs.Common.{◌≡◌, ◌+◌, ◌-◌, ◌<◌, ◌≤◌, true, false, Some, None, ◌∷◌, drop, length, refl, sym, ap, subst, ◌∙◌, rules, arith}
+use Rattle.std.proofs.Common.{◌≡◌, ◌+◌, ◌-◌, ◌<◌, ◌≤◌, true, false, Some, drop, sym, ap, subst, ◌∙◌, rules, arith}
 use Rattle.chain_stages.specs.declared.step_end.StepEnd.{StepEnd}
-use Rattle.chain_stages.specs.declared.step_end.StepEnd.TheVariants.{Going}
 use Rattle.chain_stages.specs.declared.element.Element.{Element}
 use Rattle.chain_stages.specs.Chains.{chain_output}
 use Rattle.chain_stages.specs.Stages.{alone, through}
@@ -36,7 +35,7 @@ spread_at-returns-then-not-is_going t c =
     let k = c.loop-before.before in
     let less : k < e.inner.count = omega (arith, c.loop-before-test.true) in
     let same : k + 1 - 1 ≡ k = omega arith in
-    let is : c.in_ok-next.next ≡ spread_at name e k = c.in_ok-next.ensures ∙ ap (spread_at name e) same in
+    let is : c.in_ok-next.next ≡ spread_at name e k = ◌∙◌ {b = spread_at name e (k + 1 - 1)} c.in_ok-next.ensures (ap (spread_at name e) same) in
     let over : end_is_going c.in_ok-end.end ≡ false = cc in
     ends_there rest name e k c.args.pairs.now c.loop-before.pairs c.step_at.new.pairs c.in_ok-end.end less c.loop-before.invariant (not_going c.in_ok-end.end over)
     (subst (λ (y : Element). Emits (chain_output rest (alone y)) c.loop-before.pairs c.in_ok-end.end c.step_at.new.pairs) is c.in_ok-end.ensures)
@@ -77,8 +76,8 @@ spread_at-returns t c =
     let same : e.inner.count - 1 ≡ k = omega (arith, whole) in
     let is : c.in_ok-last.last ≡ spread_at name e k = c.in_ok-last.ensures ∙ ap (spread_at name e) same in
     ok_map c.step_at-2.result _ _ (λ end f.
-        last_one rest name e k c.args.pairs.now c.loop-before.pairs c.step_at-2.new.pairs end whole c.loop-before.invariant
-        (subst (λ (y : Element). Emits (chain_output rest (alone y)) c.loop-before.pairs end c.step_at-2.new.pairs) is f)) c.step_at-2.ensures
+    last_one rest name e k c.args.pairs.now c.loop-before.pairs c.step_at-2.new.pairs end whole c.loop-before.invariant
+    (subst (λ (y : Element). Emits (chain_output rest (alone y)) c.loop-before.pairs end c.step_at-2.new.pairs) is f)) c.step_at-2.ensures
 
 -- ---- a stage other than `Cat`
 
@@ -95,9 +94,13 @@ step_at-step_at-requires t c =
     let stage = c.in-Some.stage.now in
     let rest = drop (c.args.at + 1) stages in
     let is = from_stage stages c.args.at stage c.in-Some.ensures.lookup.3.0 c.in-Some.ensures.lookup.1 in
-    let took = c.in_ok-taken-in-None in
-    (search rules, (omega (arith, c.in-Some.ensures.lookup.3.0),
-      enters_next (drop c.args.at stages) stage rest c.args.element c.in-Some-taken.next is c.requires.enters (took.ensures.enters c.in-Some-taken.next c.in-Some-taken.is)))
+    let took = c.in_ok-taken-in-None in (
+      search rules,
+      (
+        omega (arith, c.in-Some.ensures.lookup.3.0),
+        enters_next (drop c.args.at stages) stage rest c.args.element c.in-Some-taken.next is c.requires.enters (took.ensures.enters c.in-Some-taken.next c.in-Some-taken.is),
+      ),
+    )
 
 pub step_at-returns-in_ok-end-in-Some-taken : goal.step_at-returns-in_ok-end-in-Some-taken
 step_at-returns-in_ok-end-in-Some-taken t c =

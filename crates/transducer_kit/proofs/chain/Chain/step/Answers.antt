@@ -1,4 +1,4 @@
-use Rattle.std.proofs.Common.{◌≡◌, ◌++◌, ap, subst, ◌∙◌}
+use Rattle.std.proofs.Common.{◌++◌, ap, subst, ◌∙◌}
 use Rattle.program_rows.specs.Pairs.{TakeBehind, numbered}
 use Rattle.transducer_kit.specs.Items.{item_pairs}
 use Rattle.transducer_kit.proofs.chain.Chain.step.Goals as goal
