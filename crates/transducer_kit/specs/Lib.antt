@@ -1,4 +1,5 @@
 pub mod Answers
+pub mod ChainLaws
 pub mod Enters
 pub mod Items
 pub mod Laws

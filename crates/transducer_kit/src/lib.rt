@@ -9,6 +9,7 @@ mod actions;
 mod answers;
 mod catting;
 mod chain;
+pub mod chain_laws;
 mod closed;
 mod filtering;
 mod folding;
