@@ -12,6 +12,7 @@ ghost use Rattle.loop_standing.specs.Standing.{Answers, stretch_of};
 ghost use Rattle.loop_lower.specs.Walked.{IsItemTaken, is_fault, item_run};
 
 use crate::LoopJob;
+use chain_stages::StepEnd;
 use fold_seq::{Job, Reduced};
 use loop_data::{Many, TextValue, Value};
 use loop_items::Walk;
@@ -21,7 +22,6 @@ use loop_values::Env;
 use no_memory::NoMemory;
 use program_rows::{add_pairs, drop_pairs};
 use std::alloc::Global;
-use chain_stages::StepEnd;
 
 /// The name under which the place of the item stands.
 const PLACE: &str = "place";

@@ -17,25 +17,49 @@ use std::test::Fail;
 
 /// A loop, its data file, and the line of the stage to which its `break` is lowered.
 static LOOPS: [(&str, &str, u32); 12] = [
-    ("for x in 1:7\n@reduce l = list(x)\n@reduce s += x\n@reduce c = count()\nend\n", "", 0),
+    (
+        "for x in 1:7\n@reduce l = list(x)\n@reduce s += x\n@reduce c = count()\nend\n",
+        "",
+        0,
+    ),
     // a break before the split statement, in an `if` of its own and in another, a break by itself and behind the split statement
-    ("for x in 1:6\nif x == 4\nbreak\nend\n@reduce l = list(x)\nend\n", "", 2),
+    (
+        "for x in 1:6\nif x == 4\nbreak\nend\n@reduce l = list(x)\nend\n",
+        "",
+        2,
+    ),
     (
         "for x in 1:6\nif x == 4\nlet y = x\nif y > 3\nbreak\nend\nelse\nlet z = x\nend\n@reduce l = list(x)\nend\n",
         "",
         2,
     ),
-    ("for x in 1:4\nlet y = x\nbreak\n@reduce l = list(y)\nend\n", "", 3),
-    ("for x in 1:6\n@reduce l = list(x)\nlet y = x\nif y == 4\nbreak\nend\n@reduce c = count()\nend\n", "", 2),
+    (
+        "for x in 1:4\nlet y = x\nbreak\n@reduce l = list(y)\nend\n",
+        "",
+        3,
+    ),
+    (
+        "for x in 1:6\n@reduce l = list(x)\nlet y = x\nif y == 4\nbreak\nend\n@reduce c = count()\nend\n",
+        "",
+        2,
+    ),
     // body runs that end early: by `continue`, before and behind an `@reduce`, and by `@keep`
     (
         "for x in 1:6\nif x mod 2 == 0\ncontinue\nend\n@reduce l = list(x)\nif x == 3\ncontinue\nend\n@reduce s += x\nend\n",
         "",
         0,
     ),
-    ("for t in col(\"v\")\n@keep n = tryint(t)\n@reduce l = list(n)\nend\n", "v\n4\nx\n 7 \n5\n", 0),
+    (
+        "for t in col(\"v\")\n@keep n = tryint(t)\n@reduce l = list(n)\nend\n",
+        "v\n4\nx\n 7 \n5\n",
+        0,
+    ),
     // faults that stop the loop, before and behind an `@reduce`, and faults that are skipped
-    ("for x in 1:6\nlet y = 12 div (x - 4)\n@reduce l = list(y)\nend\n", "", 0),
+    (
+        "for x in 1:6\nlet y = 12 div (x - 4)\n@reduce l = list(y)\nend\n",
+        "",
+        0,
+    ),
     (
         "on fault skip\nfor x in 1:8\n@reduce c = count()\nlet y = 12 div ((x - 3) * (x - 7))\n@reduce s += y\nend\n",
         "",
@@ -133,7 +157,13 @@ fn check_part<H: Abort>(rt: &H, alloc: Global, case: &Case<'_>, part: Part) -> R
 }
 
 /// Checks each node of a loop.
-fn check_loop<H: Abort>(rt: &H, alloc: Global, text: &str, data: &str, line: u32) -> Result<(), Fail> {
+fn check_loop<H: Abort>(
+    rt: &H,
+    alloc: Global,
+    text: &str,
+    data: &str,
+    line: u32,
+) -> Result<(), Fail> {
     let program = legal(alloc, text)?;
     let table = table_of(alloc, data)?;
     let items = items_of(alloc, program.program(), &table)?;
@@ -165,9 +195,21 @@ static ENDS: [(&str, &str, &str); 4] = [
         "",
         "; 136; [0, 1, 2, 3, 4, 5, 6, 7, 8]; skipped 0",
     ),
-    ("for x in 2:1\n@reduce s = sum(x) from 7\nend\n", "", "; 7; skipped 0"),
-    ("for t in col(\"v\")\nlet n = int(t)\n@reduce s += n\nend\n", "v\n1\nx\n", "fault 2 2 2"),
-    ("on fault skip\nfor t in col(\"v\")\n@reduce s += int(t)\nend\n", "v\n4\nx\n7\n", "; 11; skipped 1"),
+    (
+        "for x in 2:1\n@reduce s = sum(x) from 7\nend\n",
+        "",
+        "; 7; skipped 0",
+    ),
+    (
+        "for t in col(\"v\")\nlet n = int(t)\n@reduce s += n\nend\n",
+        "v\n1\nx\n",
+        "fault 2 2 2",
+    ),
+    (
+        "on fault skip\nfor t in col(\"v\")\n@reduce s += int(t)\nend\n",
+        "v\n4\nx\n7\n",
+        "; 11; skipped 1",
+    ),
 ];
 
 /// The end of a loop that is folded whole.

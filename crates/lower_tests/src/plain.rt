@@ -94,7 +94,12 @@ fn tower_text(
 fn row_text(alloc: Global, row: &Row, stretch: &Stretch) -> Result<String, Fail> {
     let mut out = String::new(alloc);
     for named in &row.towers {
-        let text = tower_text(alloc, &named.tower.kind, &named.name, stretch.emitted.as_slice())?;
+        let text = tower_text(
+            alloc,
+            &named.tower.kind,
+            &named.name,
+            stretch.emitted.as_slice(),
+        )?;
         out.push_str("; ")?;
         out.push_str(text.as_str())?;
     }
@@ -104,7 +109,12 @@ fn row_text(alloc: Global, row: &Row, stretch: &Stretch) -> Result<String, Fail>
 }
 
 /// How a stretch ended, with the states that the row has then. `line` is that of the stage of each `break`.
-pub fn stretch_text(alloc: Global, row: &Row, stretch: &Stretch, line: u32) -> Result<String, Fail> {
+pub fn stretch_text(
+    alloc: Global,
+    row: &Row,
+    stretch: &Stretch,
+    line: u32,
+) -> Result<String, Fail> {
     let at = stretch.at;
     let states = row_text(alloc, row, stretch)?;
     match stretch.end {

@@ -7,8 +7,14 @@ use std::test::Fail;
 
 /// A loop over the column `v`, and why it isn't lowered.
 static REFUSED: [(&str, &str); 8] = [
-    ("for (a, b) in zip(col(\"w\"), 1:0:3)\nend\n", "line 1: no column w"),
-    ("for (a, b) in zip(1:0:3, col(\"w\"))\nend\n", "line 1: step is zero"),
+    (
+        "for (a, b) in zip(col(\"w\"), 1:0:3)\nend\n",
+        "line 1: no column w",
+    ),
+    (
+        "for (a, b) in zip(1:0:3, col(\"w\"))\nend\n",
+        "line 1: step is zero",
+    ),
     // each collection is tried before the product is
     (
         "for p in product(1:65536, 1:65536, 1:2, 1:0:1)\nend\n",
@@ -28,7 +34,10 @@ static REFUSED: [(&str, &str); 8] = [
         "line 1: 4294967297 items, at most 4294967296",
     ),
     // a product of no items is none of too many
-    ("for p in product(1:65536, 1:65536, 1:2, 1:0)\nend\n", "lowered"),
+    (
+        "for p in product(1:65536, 1:65536, 1:2, 1:0)\nend\n",
+        "lowered",
+    ),
     ("for t in col(\"v\")\nend\n", "lowered"),
 ];
 

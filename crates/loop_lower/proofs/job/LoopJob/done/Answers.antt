@@ -13,9 +13,11 @@ with_starts-requires c =
     let P = job.program.now in
     let items = job.head.items in
     let row = job.row.towers.items in
-    let pairs = (run_over P items).emitted in
-    (numbered row pairs, c.requires.holds.stands,
-    omega (arith, numbered_few row pairs, legal_parts_emit_few P (start_store P) items 1 job.known.legal job.known.few_items))
+    let pairs = (run_over P items).emitted in (
+      numbered row pairs,
+      c.requires.holds.stands,
+      omega (arith, numbered_few row pairs, legal_parts_emit_few P (start_store P) items 1 job.known.legal job.known.few_items),
+    )
 
 pub returns : goal.returns
 returns c =
