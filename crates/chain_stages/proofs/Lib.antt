@@ -1,0 +1,4 @@
+pub mod CatLemmas
+pub mod ChainLemmas
+pub mod FewLemmas
+pub mod RangeLemmas

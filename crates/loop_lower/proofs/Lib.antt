@@ -1,0 +1,6 @@
+pub mod CatLemmas
+pub mod EndLemmas
+pub mod ItemLemmas
+pub mod LowerLemmas
+pub mod PartLemmas
+pub mod Shared

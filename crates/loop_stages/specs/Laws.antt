@@ -1,0 +1,35 @@
+-- What holds of lowered loops. Each is the contract of a function of laws.
+-- Source: this project.
+use Rattle.std.specs.Prelude.{◌≡◌, ℕ, ◌+◌, true, List, ◌++◌, length}
+use Rattle.loop_data.specs.declared.value.Value.{Value}
+use Rattle.loop_grammar.specs.WellFormed.{is_well_formed}
+use Rattle.loop_grammar.specs.declared.tree.ProgramTree.{ProgramTree}
+use Rattle.legality_rules.specs.Offences.{IsLegal}
+use Rattle.loop_meaning.specs.Runs.{loop_run}
+use Rattle.loop_meaning.specs.Steps.{body_step}
+use Rattle.loop_meaning.specs.Stores.{start_store}
+use Rattle.loop_stages.specs.Agreement.{IsAsRun, IsAsStep}
+use Rattle.loop_stages.specs.Items.{item_output, items_taken, then_taken}
+
+-- Lowering is right, for every legal program that a text spells: of every stretch of items, each taken through the chain alone up
+-- to the item where the run ends, the emitted pairs in order, those of items that fault in a program with `on fault skip` left
+-- out, are those of the run from the start, where it doesn't end in a fault; as many items are left out as the run skips faults;
+-- the ends have the same place, a fault the same line and kind, and a break the line of its stage.
+abbrev pub LoweringIsRight : Type 0
+LoweringIsRight = (program : ProgramTree) → IsLegal program → is_well_formed program ≡ true →
+    (items : List Value) (place : ℕ) →
+    IsAsRun program (loop_run program (start_store program) items place) (items_taken program items place)
+
+-- An item alone through the chain is its step from the start: the same pairs, of which at a fault a front alone leaves the chain;
+-- the same end, and at a break the line of its stage.
+abbrev pub ItemsAreSteps : Type 0
+ItemsAreSteps = (program : ProgramTree) → IsLegal program → is_well_formed program ≡ true →
+    (item : Value) (place : ℕ) →
+    IsAsStep program (body_step program (start_store program) item place) (item_output program item place)
+
+-- the items of two stretches, one after the other, give what the first gives and, where it came to no end, what the second gives
+-- from its own first place on
+abbrev pub TakenInParts : Type 0
+TakenInParts = (program : ProgramTree) (xs ys : List Value) (place : ℕ) →
+    items_taken program (xs ++ ys) place
+    ≡ then_taken (items_taken program xs place) (items_taken program ys (place + length xs))
