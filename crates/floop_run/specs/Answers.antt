@@ -23,6 +23,7 @@ use Rattle.data_files.specs.Tables.{data_table}
 use Rattle.data_files.specs.Texts.{data_text}
 use Rattle.loop_items.specs.declared.refusal.HeadRefusal.{HeadRefusal}
 use Rattle.loop_items.specs.Heads.{Head, head_of}
+use Rattle.loop_chain.specs.Explain.{explain_lines}
 use Rattle.loop_items.specs.Refusals.{first_head_refusal}
 use Rattle.loop_items.specs.RefusalTexts.{refusal_text}
 use Rattle.loop_meaning.specs.declared.runs.Run.{Run}
@@ -94,6 +95,7 @@ run_answer program head =
 -- What the command writes of a legal program over its head. A command that reads a further file finds it in what is held.
 abbrev pub command_answer : Command → Request → Held → ProgramTree → Head → Answer
 command_answer command.Check request held program head = done (accepted_line program head.items ∷ [])
+command_answer command.Explain request held program head = done (explain_lines program (length head.items))
 command_answer command.Run request held program head = run_answer program head
 
 -- ---- refusals, in their order

@@ -10,8 +10,8 @@ use Rattle.reducer_tower.specs.Rows.{RowStands, starts_of}
 use Rattle.program_rows.specs.Pairs.{numbered}
 use Rattle.program_rows.specs.Rows.{row_of}
 use Rattle.loop_meaning.specs.declared.runs.Run.{Run}
-use Rattle.plain_path.specs.declared.fold.PathEnd.{PathEnd}
-use Rattle.plain_path.specs.Paths.{IsEnd}
+use Rattle.loop_lower.specs.declared.ends.LoopEnd.{LoopEnd}
+use Rattle.loop_lower.specs.Ends.{IsEnd}
 
 -- the states stand for these inputs
 abbrev pub StandFor : Row → RowState → List Input → Type 0
@@ -27,10 +27,10 @@ pub record AreResults (program : ProgramTree) (row : Row) (state : RowState) (em
   pub stands : StandFor row state (starts_of row.towers.items ++ numbered row.towers.items emitted)
 
 -- the end of a run into the row
-abbrev pub IsSomeEnd : Row → PathEnd → Type 0
+abbrev pub IsSomeEnd : Row → LoopEnd → Type 0
 IsSomeEnd row end = (run : Run) × IsEnd row.towers.items run end
 
 -- the row is that of the program's reducers, and this is the end of the run into it
-pub record IsRowEnd (program : ProgramTree) (row : Row) (run : Run) (end : PathEnd) : Type 0 where
+pub record IsRowEnd (program : ProgramTree) (row : Row) (run : Run) (end : LoopEnd) : Type 0 where
   pub reducers : row.towers.items ≡ row_of program
   pub ended : IsEnd row.towers.items run end

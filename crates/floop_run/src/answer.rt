@@ -7,7 +7,6 @@ ghost use Rattle.edge_io.specs.Reading.{Held};
 ghost use Rattle.loop_syntax.specs.Programs.{loop_file_limit};
 ghost use Rattle.data_files.specs.Tables.{data_table};
 ghost use Rattle.loop_items.specs.Refusals.{first_head_refusal};
-ghost use Rattle.plain_path.specs.Paths.{AreHeadItems};
 ghost use Rattle.floop_run.specs.Requests.{request_in, data_names, most_reads};
 ghost use Rattle.floop_run.specs.Answers.{IsAnswer, IsAskedAnswer, IsTextAnswer, program_answer, table_answer, head_answer};
 ghost use Rattle.floop_run.specs.Answers.{command_answer, too_long_text};
@@ -16,7 +15,7 @@ ghost use Rattle.floop_run.specs.TopCall.{IsAnswered, refusal_written};
 ghost use Rattle.floop_run.specs.Outputs.{MakesOutput, written_in};
 
 use crate::Status;
-use crate::accepted::accepted_output;
+use crate::accepted::{accepted_output, explained_output};
 use crate::names::{data_names, loop_file};
 use crate::results::run_output;
 use crate::runner::Runner;
@@ -24,7 +23,8 @@ use column_input::Table;
 use data_files::{DataStop, read_data};
 use edge_io::{Files, NoMemory, ReadStop};
 use legality_check::{LegalProgram, LegalRefusal, check_program};
-use loop_items::{HeadItems, HeadRefusal};
+use loop_items::HeadRefusal;
+use loop_lower::{LoopJob, lower};
 use loop_syntax::{LOOP_FILE_LIMIT, Program, SyntaxRefusal, read_program};
 use program_words::{Call, Command, Request, request_of};
 use std::alloc::{AllocError, Global};
@@ -234,8 +234,8 @@ fn table_output<W: Runner>(
         (written_in o)) }
     ensures answered { IfOk result (λ o. IsAnswered o.status) }
 {
-    match HeadItems::open(alloc, legal.program(), table) {
-        Ok(head) => command_output(alloc, runner, request, legal, &head),
+    match lower(alloc, legal, table) {
+        Ok(job) => command_output(alloc, runner, request, &job),
         Err(HeadRefusal::NoMemory) => Err(NoMemory),
         Err(why) => refusal_of(alloc, &why),
     }
@@ -246,17 +246,16 @@ fn command_output<W: Runner>(
     alloc: Global,
     runner: &W,
     request: &Request<'_>,
-    legal: &LegalProgram,
-    head: &HeadItems<'_>,
+    job: &LoopJob<'_>,
 ) -> Result<Output, NoMemory>
-    requires { AreHeadItems legal.now head.now.items }
     ensures answer { (held : Held) → IfOk result (λ o. IsWrittenOf (request_seen request.now)
-        (command_answer request.now.command (request_seen request.now) held legal.now head.now)
+        (command_answer request.now.command (request_seen request.now) held job.now.program.now job.now.head)
         (written_in o)) }
     ensures answered { IfOk result (λ o. IsAnswered o.status) }
 {
     match request.command {
-        Command::Check => accepted_output(alloc, legal, head),
-        Command::Run => run_output(alloc, runner, request, legal, head),
+        Command::Check => accepted_output(alloc, job),
+        Command::Explain => explained_output(alloc, job),
+        Command::Run => run_output(alloc, runner, request, job),
     }
 }

@@ -5,7 +5,6 @@ ghost use Rattle.loop_grammar.specs.declared.tree.ProgramTree.{ProgramTree};
 ghost use Rattle.loop_grammar.specs.SkippedFaults.{skips_faults};
 ghost use Rattle.loop_meaning.specs.declared.runs.Run.{Run};
 ghost use Rattle.loop_meaning.specs.declared.steps.Pair.{Pair};
-ghost use Rattle.plain_path.specs.Paths.{AreHeadItems};
 ghost use Rattle.program_words.specs.Values.{wants_report};
 ghost use Rattle.program_words.specs.Views.{request_seen};
 ghost use Rattle.floop_run.specs.Results.{fault_text, fault_line, result_line, results_lines, skipped_lines};
@@ -22,11 +21,9 @@ use crate::runner::Runner;
 use edge_io::NoMemory;
 use legality_check::LegalProgram;
 use loop_data::PrintLine;
-use loop_items::HeadItems;
+use loop_lower::{LoopEnd, LoopJob};
 use loop_syntax::Program;
 use piece_ledger::Tally;
-use plain_path::PathEnd;
-use program_rows::row_of;
 use program_words::Request;
 use reducer_tower::{Row, RowState, RowStop};
 use std::alloc::{AllocError, Global};
@@ -137,7 +134,7 @@ fn end_output(
     alloc: Global,
     legal: &LegalProgram,
     row: &Row,
-    end: &PathEnd,
+    end: &LoopEnd,
 ) -> Result<Output, NoMemory>
     requires { IsSomeEnd row.now end.now }
     ensures answer { IfOk result (λ o. (run : Run) → IsRowEnd legal.now row.now run end.now →
@@ -145,8 +142,8 @@ fn end_output(
     ensures answered { IfOk result (λ o. IsAnswered o.status) }
 {
     match end {
-        PathEnd::Done { state, skipped } => done_output(alloc, legal, row, state, *skipped),
-        PathEnd::Faulted { at, line, kind } => {
+        LoopEnd::Done { state, skipped } => done_output(alloc, legal, row, state, *skipped),
+        LoopEnd::Faulted { at, line, kind } => {
             let line = fault_line(alloc, *at, *line, *kind)?;
             one_line(alloc, Status::LoopFault, line)
         }
@@ -180,22 +177,20 @@ fn add_report(
     Ok(())
 }
 
-/// The output of a run over the items of a head.
+/// The output of a run: of a fold of the loop, with the report of it where the request wants one.
 pub(crate) fn run_output<W: Runner>(
     alloc: Global,
     runner: &W,
     request: &Request<'_>,
-    legal: &LegalProgram,
-    head: &HeadItems<'_>,
+    job: &LoopJob<'_>,
 ) -> Result<Output, NoMemory>
-    requires { AreHeadItems legal.now head.now.items }
-    ensures answer { IfOk result (λ o.
-        IsWrittenOf (request_seen request.now) (run_answer legal.now head.now) (written_in o)) }
+    ensures answer { IfOk result (λ o. IsWrittenOf (request_seen request.now)
+        (run_answer job.now.program.now job.now.head) (written_in o)) }
     ensures answered { IfOk result (λ o. IsAnswered o.status) }
 {
-    let row = row_of(alloc, legal)?;
-    let (end, tally) = runner.run_loop(alloc, request, legal, head, &row)?;
-    let mut output = end_output(alloc, legal, &row, &end)?;
+    let (answer, tally) = runner.run_loop(alloc, request, job)?;
+    let end = job.end(alloc, answer)?;
+    let mut output = end_output(alloc, job.program, job.row(), &end)?;
     add_report(alloc, request, tally, &mut output.lines)?;
     Ok(output)
 }

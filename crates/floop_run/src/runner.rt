@@ -1,42 +1,37 @@
 //! In which way a loop is run.
 
-ghost use Rattle.std.specs.Prelude.{◌≡◌, IfOk};
-ghost use Rattle.program_words.specs.Values.{executor_of};
+ghost use Rattle.std.specs.Prelude.{IfOk};
+ghost use Rattle.splittable.specs.Places.{item_count};
+ghost use Rattle.fold_seq.specs.Answers.{stop_place_of};
+ghost use Rattle.piece_ledger.specs.Folded.{IsReported};
+ghost use Rattle.program_words.specs.Values.{workers_of};
 ghost use Rattle.program_words.specs.Views.{request_seen};
-ghost use Rattle.program_rows.specs.Rows.{row_of};
-ghost use Rattle.plain_path.specs.Paths.{AreHeadItems, IsEnd};
-ghost use Rattle.floop_run.specs.Results.{whole_run};
-ghost use Rattle.floop_run.specs.Answers.{folded_over};
-ghost use Rattle.floop_run.specs.Folds.{IsLawfulFor};
+ghost use Rattle.loop_standing.specs.Standing.{StretchStands};
+ghost use Rattle.floop_run.specs.Folds.{least_for};
 
 use edge_io::NoMemory;
-use legality_check::LegalProgram;
-use loop_items::HeadItems;
+use executor_folds::fold_by;
+use fold_seq::Reduced;
+use loop_lower::{LoopJob, LoopState};
 use piece_ledger::{Gate, Tally};
-use plain_path::{PathEnd, fold_plain};
-use program_words::{Executor, Request};
-use reducer_tower::Row;
+use program_words::Request;
 use std::alloc::Global;
 use std::thread::Threads;
 
 /// What runs loops, in the way in which a request asks for it.
 pub trait Runner {
-    /// Runs a legal program over the items of its head into the row of its reducers: the end is that of the plain loop over
-    /// them, and the tally is a lawful report.
+    /// Folds a loop: the answer is what all its items give, and the tally is a lawful report of the request's fold.
     fn run_loop(
         &self,
         alloc: Global,
         request: &Request<'_>,
-        legal: &LegalProgram,
-        head: &HeadItems<'_>,
-        row: &Row,
-    ) -> Result<(PathEnd, Tally), NoMemory>
-        requires row { row.now.towers.items ≡ row_of legal.now }
-        requires head { AreHeadItems legal.now head.now.items }
-        ensures end { IfOk result (λ r.
-            IsEnd row.now.towers.items (whole_run legal.now head.now.items) r.0) }
-        ensures tally { IfOk result (λ r.
-            IsLawfulFor (request_seen request.now) (folded_over legal.now head.now) r.1) };
+        job: &LoopJob<'_>,
+    ) -> Result<(Reduced<LoopState>, Tally), NoMemory>
+        ensures stands { IfOk result (λ r. StretchStands job.now.program.now job.now.row.towers.items
+            job.now.head.items 1 (item_count job.now.head.lens) r.0) }
+        ensures tally { IfOk result (λ r. IsReported job.now.head.lens
+            (least_for (request_seen request.now) job.now.head.lens) (workers_of (request_seen request.now))
+            (stop_place_of r.0) r.1) };
 }
 
 /// Runs loops without waiting for other threads, but by joining its own.
@@ -53,26 +48,17 @@ impl<R: Threads + Sync, G: Gate + Sync> Runner for Direct<'_, R, G> {
         &self,
         alloc: Global,
         request: &Request<'_>,
-        legal: &LegalProgram,
-        head: &HeadItems<'_>,
-        row: &Row,
-    ) -> Result<(PathEnd, Tally), NoMemory> {
-        match request.executor() {
-            Executor::Seq => {
-                let end = fold_plain(alloc, legal, head, row)?;
-                Ok((end, whole_tally(request, legal, head)))
-            }
-        }
-    }
-}
-
-/// The tally where the whole was run as one part; an empty loop has no part.
-fn whole_tally(request: &Request<'_>, legal: &LegalProgram, head: &HeadItems<'_>) -> Tally
-    requires { executor_of (request_seen request.now) ≡ Executor.Seq }
-    ensures { IsLawfulFor (request_seen request.now) (folded_over legal.now head.now) result }
-{
-    Tally {
-        ran: head.count().min(1),
-        items_skipped: 0,
+        job: &LoopJob<'_>,
+    ) -> Result<(Reduced<LoopState>, Tally), NoMemory> {
+        let executor = request.executor();
+        fold_by(
+            self.rt,
+            alloc,
+            job,
+            executor,
+            request.base(),
+            request.workers(),
+            self.gate,
+        )
     }
 }

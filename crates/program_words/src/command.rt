@@ -21,10 +21,12 @@ pub enum Command {
     Run,
     /// Say that the loop is accepted, with the counts of its items and reducers.
     Check,
+    /// Tell how a loop is folded.
+    Explain,
 }
 
 /// All commands.
-const COMMANDS: [Command; 2] = [Command::Run, Command::Check];
+const COMMANDS: [Command; 3] = [Command::Run, Command::Check, Command::Explain];
 
 /// The settings of the commands that read a loop and its data.
 static LOOP_SETTINGS: [Setting; 2] = [Setting::Loop, Setting::Data];
@@ -50,6 +52,7 @@ impl Command {
         match self {
             Command::Run => "run",
             Command::Check => "check",
+            Command::Explain => "explain",
         }
     }
 
@@ -60,6 +63,7 @@ impl Command {
         match self {
             Command::Run => &RUN_SETTINGS,
             Command::Check => &LOOP_SETTINGS,
+            Command::Explain => &LOOP_SETTINGS,
         }
     }
 
@@ -70,6 +74,7 @@ impl Command {
         match self {
             Command::Run => &LOOP_REQUIRED,
             Command::Check => &LOOP_REQUIRED,
+            Command::Explain => &LOOP_REQUIRED,
         }
     }
 
@@ -80,6 +85,7 @@ impl Command {
         match self {
             Command::Run => false,
             Command::Check => false,
+            Command::Explain => false,
         }
     }
 

@@ -16,8 +16,9 @@ counted_line items reducers = line (codes "accepted: " ++ decimal items ++ codes
 
 pub returns-clause-answer : goal.returns-clause-answer
 returns-clause-answer c =
+    let program = c.args.job.now.program.now in
     let with_line : List ℕ → Written = λ text. record { status = status.Done; lines = text ∷ [] } in
-    let held : c.len-reducers.result ≡ length c.in_ok-row_of.field-0.towers.items = search rules in
-    let reducers : c.len-reducers.result ≡ length (reducers_of c.args.legal.now) = held ∙ ap length c.in_ok-row_of.ensures ∙ row_counted c.args.legal.now in
+    let held : c.len-reducers.result ≡ length c.args.job.now.row.towers.items = search rules in
+    let reducers : c.len-reducers.result ≡ length (reducers_of program) = held ∙ ap length c.args.job.now.row_is ∙ row_counted program in
     let pieces = five_pieces (codes "accepted: ") (decimal c.count-items.result) (codes " items, ") (decimal c.len-reducers.result) (codes " reducers") (10 ∷ []) in
     IfOk-weaker c.one_line.result _ _ (λ o is. is ∙ ap with_line (c.in_ok-line.ensures.ok ∙ pieces ∙ ap₂ counted_line c.count-items.ensures.items reducers)) c.one_line.ensures
