@@ -43,6 +43,15 @@ missing_given None call words A B r before e is = tt
 missing_given (Some h) call words A B r before e is =
     λ a b other. (record { status = status.ReadFault; lines = [] }, (not_held, is a e, nothing_for (request_in call words)), record { status = refl; text = puts_nothing before })
 
+-- an output that was given is that of the answer, where no put failed
+pub output_given : (told : Option Held) (call : Call) (words : List (List ℕ)) (A : Type 0) (output : Output) (given : Status) (before now : Option (List ℕ)) (faults faults2 : ℕ)
+    → IfSome told (λ h. IsOutputOf (IsAnswer call words h) (IsWritten call words) output) → (IsAnswered given → Gives (written_in output) given before now)
+    → (given ≢ status.WriteFault → given ≢ status.NoMemory → IsAnswered given) → (given ≡ status.WriteFault → RoseByOne faults faults2)
+    → IfSome told (λ h. A → DidNotRise faults faults2 → given ≢ status.NoMemory → GivesAnswer call words h given before now)
+output_given None call words A output given before now faults faults2 is gives cases fault = tt
+output_given (Some h) call words A output given before now faults faults2 is gives cases fault =
+    λ a none other. (written_in output, is, gives (cases (λ e. let rose = fault e in none (omega arith)) other))
+
 -- a failed put of the text of refused words leaves a prefix of it
 pub prefix_of_refused : (request : Result Request (List ℕ)) (before now : Option (List ℕ)) (output : Output) (given : Status) → IfErr request (λ text. written_in output ≡ refusal_written text) →
     (given ≡ status.WriteFault → PutsPrefixOf (written_in output) before now) → IfErr request (λ text. given ≡ status.WriteFault → PutsPrefixOf (refusal_written text) before now)

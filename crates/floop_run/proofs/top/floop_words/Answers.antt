@@ -2,7 +2,7 @@ use Rattle.std.proofs.Common.{Err, ap, ◌∙◌}
 use Rattle.program_words.specs.Words.{texts}
 use Rattle.program_words.specs.declared.command.Call.TheVariants as call
 use Rattle.floop_run.specs.Requests.{request_in}
-use Rattle.floop_run.proofs.TopLemmas.{missing_given, refused_given, prefix_of_refused, only_output, one_put}
+use Rattle.floop_run.proofs.TopLemmas.{missing_given, output_given, refused_given, prefix_of_refused, only_output, one_put}
 use Rattle.floop_run.proofs.top.floop_words.Goals as goal
 
 pub returns-in-Ok-clause-words_refused : goal.returns-in-Ok-clause-words_refused
@@ -24,3 +24,7 @@ returns-in-Ok-clause-words_put g c =
 pub returns-in-Err-ReadFault-clause-headline : goal.returns-in-Err-ReadFault-clause-headline
 returns-in-Err-ReadFault-clause-headline g c =
     missing_given (g.F.Files.held c.args.files.now) call.Direct (texts c.args.words.now) _ _ c.output_for.result (g.K.Sink.written c.args.out.now) (c.in-Err-ReadFault.is ∙ ap Err c.in-Err-ReadFault.field-0-is) c.output_for.ensures.made.read_fault
+
+pub returns-in-Ok-clause-headline : goal.returns-in-Ok-clause-headline
+returns-in-Ok-clause-headline g c =
+    output_given (g.F.Files.held c.args.files.now) call.Direct (texts c.args.words.now) _ c.in-Ok.output c.give.result _ _ _ _ c.in-Ok.ensures.made.output c.give.ensures.given c.give.ensures.cases c.give.ensures.write_fault
