@@ -6,6 +6,7 @@
 #![tactic(auto)]
 
 mod ends;
+mod item;
 mod job;
 pub mod laws;
 mod lowering;

@@ -86,6 +86,7 @@ static LOOPS: [(&str, &str, u32); 12] = [
 ];
 
 /// A loop as a job, with what the plain loop takes.
+#[derive(Drop)]
 struct Case<'a> {
     job: &'a LoopJob<'a>,
     program: &'a Program,
