@@ -1,5 +1,5 @@
 -- What the step of each item of a loop emits fits the row.
-use Rattle.std.proofs.Common.{◌≡◌, ℕ, ◌≤◌, ◌-◌, Bool, true, false, List, [], ◌∷◌, ◌++◌, take, drop, length, Option, Some, refl, sym, ap, ◌∙◌, subst, arith}
+use Rattle.std.proofs.Common.{◌≡◌, ℕ, ◌≤◌, ◌-◌, Bool, true, false, List, ◌∷◌, take, drop, refl, sym, ap, ◌∙◌, subst}
 use Rattle.std.proofs.Math.Bool.{Bool-set}
 use Rattle.std.proofs.Math.Logic.{∥∥₁_elim}
 use Rattle.std.proofs.lemmas.List.{take-append-drop}
@@ -8,11 +8,9 @@ use Rattle.std.specs.List.{list_all}
 use Rattle.std.specs.Prelude.{◌&&◌}
 use Rattle.number_ranges.specs.Ranges.{most_items}
 use Rattle.loop_data.specs.declared.value.Value.{Value}
-use Rattle.loop_data.specs.declared.value.ValueKind.{ValueKind}
 use Rattle.loop_values.specs.Fits.{fits}
 use Rattle.loop_grammar.specs.declared.tree.ProgramTree.{ProgramTree}
 use Rattle.loop_syntax.proofs.WellFormedTexts.{well_formed_is_spelled}
-use Rattle.legality_rules.specs.Scopes.{item_kind}
 use Rattle.loop_meaning.specs.Items.{sources_of}
 use Rattle.reducer_tower.specs.declared.named.Named.{Named}
 use Rattle.fitting_inputs.proofs.ItemLemmas.{items_fit}

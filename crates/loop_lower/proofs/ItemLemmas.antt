@@ -1,5 +1,5 @@
 -- One item through the chain, and its run from the start.
-use Rattle.std.proofs.Common.{◌≡◌, ℕ, ◌+◌, ◌≤◌, Bool, true, false, List, [], ◌++◌, length, refl, sym, ap, ◌∙◌, subst, append-nil, length-append, pos, arith}
+use Rattle.std.proofs.Common.{◌≡◌, ℕ, ◌+◌, Bool, true, false, List, [], ◌++◌, length, refl, sym, ap, ◌∙◌, subst, append-nil, length-append, pos, arith}
 use Rattle.std.specs.FinMap.{insert}
 use Rattle.loop_data.specs.declared.value.Value.{Value}
 use Rattle.loop_data.specs.declared.value.Value.TheVariants.{Int}

@@ -1,15 +1,13 @@
 -- The run over the items of a part so far, one item more, and the whole, as a part follows them.
-use Rattle.std.proofs.Common.{◌≡◌, ◌≢◌, ℕ, true, ◌+◌, ◌<◌, ◌≤◌, ◌^◌, List, [], ◌∷◌, ◌++◌, length, take, drop, refl, sym, ap, subst, ◌∙◌, append-nil, length-append, length-take, length-drop, arith}
+use Rattle.std.proofs.Common.{◌≡◌, ◌≢◌, ℕ, ◌+◌, ◌<◌, ◌≤◌, List, [], ◌∷◌, ◌++◌, length, take, drop, refl, sym, ap, subst, ◌∙◌, length-take, length-drop, arith}
 use Rattle.std.proofs.Math.Seq.{take-add}
 use Rattle.std.proofs.lemmas.List.{take-append-drop, take_all, drop-drop}
 use Rattle.loop_data.specs.declared.value.Value.{Value}
 use Rattle.loop_grammar.specs.declared.tree.ProgramTree.{ProgramTree}
 use Rattle.legality_rules.specs.Offences.{IsLegal}
-use Rattle.loop_meaning.specs.declared.runs.PlainStop.{PlainStop}
 use Rattle.loop_meaning.specs.declared.runs.PlainStop.TheVariants as stop
 use Rattle.loop_meaning.specs.declared.runs.Run.{Run}
-use Rattle.loop_meaning.specs.declared.steps.Pair.{Pair}
-use Rattle.loop_meaning.specs.Runs.{after_stop, followed_by}
+use Rattle.loop_meaning.specs.Runs.{after_stop}
 use Rattle.loop_meaning.specs.Stores.{start_store}
 use Rattle.loop_meaning.proofs.RunLemmas.{nothing_follows}
 use Rattle.loop_meaning.proofs.StopLemmas.{skips_at_most}
@@ -17,7 +15,7 @@ use Rattle.carries_nothing.specs.Parts.{GivesSame, from_start}
 use Rattle.carries_nothing.proofs.Cuts.{legal_carries_nothing}
 use Rattle.reducer_tower.specs.declared.named.Named.{Named}
 use Rattle.reducer_tower.specs.Rows.{RowStands}
-use Rattle.program_rows.specs.Pairs.{numbered, pairs_fit}
+use Rattle.program_rows.specs.Pairs.{numbered}
 use Rattle.program_rows.specs.Pairs.{HaveRoom}
 use Rattle.fold_seq.specs.declared.answers.Reduced.TheVariants.{Going, Stopped, Faulted}
 use Rattle.loop_stages.specs.Breaks.{stage_line}

@@ -1,12 +1,11 @@
-use Rattle.std.proofs.Common.{◌≡◌, ◌++◌, ◌+◌, List, [], length, refl, sym, ap, subst, ◌∙◌, length-append, arith}
+use Rattle.std.proofs.Common.{◌+◌, [], refl, sym, subst, ◌∙◌, length-append, arith}
 use Rattle.reducer_tower.specs.declared.row.RowState.{RowState}
 use Rattle.reducer_tower.specs.Rows.{RowStands}
-use Rattle.program_rows.specs.Pairs.{TakeBehind, numbered}
+use Rattle.program_rows.specs.Pairs.{numbered}
 use Rattle.program_rows.proofs.PairLemmas.{numbered_few}
 use Rattle.chain_stages.specs.Chains.{chain_output}
 use Rattle.chain_stages.specs.Elements.{beginning, emitted_by}
 use Rattle.chain_stages.specs.Stages.{alone}
-use Rattle.loop_lower.specs.Walked.{is_fault}
 use Rattle.loop_lower.specs.declared.part.Walked.{Walked}
 use Rattle.loop_lower.proofs.ItemLemmas.{may_emit, may_fold, same_output, skipped_so, taken_so}
 use Rattle.loop_lower.proofs.job.LoopJob.take_apart.Goals as goal

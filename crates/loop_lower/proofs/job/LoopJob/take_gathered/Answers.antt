@@ -4,7 +4,6 @@ use Rattle.program_rows.specs.Pairs.{HaveRoom, TakeBehind, numbered, pairs_fit}
 use Rattle.chain_stages.specs.Chains.{chain_output}
 use Rattle.chain_stages.specs.Elements.{beginning, emitted_by}
 use Rattle.chain_stages.specs.Stages.{alone}
-use Rattle.loop_lower.specs.Walked.{is_fault}
 use Rattle.loop_lower.specs.declared.part.Walked.{Walked}
 use Rattle.loop_lower.proofs.ItemLemmas.{may_emit, may_fold, same_output, skipped_so, taken_so}
 use Rattle.loop_lower.proofs.job.LoopJob.take_gathered.Goals as goal
