@@ -25,15 +25,16 @@ is_fault Going = false
 is_fault (Ended line) = false
 is_fault (Fault line kind) = true
 
--- the names with which the element of an item begins: the store in which the loop begins, the place, and the item
+-- the names with which an item's element begins: the store in which the loop begins, the place, and the item
 abbrev pub names_at : ProgramTree → Value → ℕ → Bindings
-names_at program item place = with_item (insert (start_store program) place_name (Int (pos place))) program.head.names item
+names_at program item place =
+    with_item (insert (start_store program) place_name (Int (pos place))) program.head.names item
 
 -- the pairs that the step of an item from the start emits, at this place, also where it faults
 abbrev pub step_pairs : ProgramTree → Value → ℕ → List Pair
 step_pairs program item place = (body_step program (start_store program) item place).emitted
 
--- an item may be taken at this place: no pair is left over, its pairs fit the row, and the states have room for them
+-- an item may be taken at this place: no pair is left over, its pairs fit the row, and the states have room
 pub record MayBeTaken (program : ProgramTree) (row : List Named) (item : Value) (at : ℕ) (before : Walked) : Type 0 where
   pub low : at < 2 ^ 63
   pub few : before.state.skipped < 2 ^ 63
@@ -45,7 +46,8 @@ pub record MayBeTaken (program : ProgramTree) (row : List Named) (item : Value) 
 abbrev pub item_run : ProgramTree → Value → ℕ → Run
 item_run program item place = from_start program (item ∷ []) place
 
--- what counts of what a run emitted is behind what the states held, and its skipped faults are counted; no pair is left over
+-- What counts of what a run emitted is behind what the states held, and its skipped faults are counted; no pair is left
+-- over.
 pub record Adds (row : List Named) (run : Run) (before after : Walked) : Type 0 where
   pub states : TakeBehind row before.state.row after.state.row (numbered row run.emitted)
   pub skips : after.state.skipped ≡ before.state.skipped + run.skipped

@@ -84,7 +84,8 @@ impl<'a> LoopJob<'a> {
         walked: &mut Walked,
     ) -> Result<StepEnd, NoMemory>
         requires stops { skips_faults self.now.program.now ≡ false }
-        requires may { MayBeTaken self.now.program.now self.now.row.towers.items item place walked.old }
+        requires may { MayBeTaken self.now.program.now self.now.row.towers.items item place
+            walked.old }
         ensures { IfOk result (IsItemTaken self.now.program.now self.now.row.towers.items
             (item_run self.now.program.now item place) place walked.old walked.new) }
     {
@@ -95,8 +96,8 @@ impl<'a> LoopJob<'a> {
         Ok(end)
     }
 
-    /// An item without inner heads of a program that skips faults: its few pairs are gathered, in a list that all items share, and
-    /// folded in, or dropped where it faults.
+    /// An item without inner heads of a program that skips faults: its few pairs are gathered, in a list that all items share,
+    /// and folded in, or dropped where it faults.
     fn take_gathered(
         &self,
         alloc: Global,
@@ -105,7 +106,8 @@ impl<'a> LoopJob<'a> {
         walked: &mut Walked,
     ) -> Result<StepEnd, NoMemory>
         requires skips { skips_faults self.now.program.now ≡ true }
-        requires may { MayBeTaken self.now.program.now self.now.row.towers.items item place walked.old }
+        requires may { MayBeTaken self.now.program.now self.now.row.towers.items item place
+            walked.old }
         ensures { IfOk result (IsItemTaken self.now.program.now self.now.row.towers.items
             (item_run self.now.program.now item place) place walked.old walked.new) }
     {
@@ -130,7 +132,8 @@ impl<'a> LoopJob<'a> {
         walked: &mut Walked,
     ) -> Result<StepEnd, NoMemory>
         requires skips { skips_faults self.now.program.now ≡ true }
-        requires may { MayBeTaken self.now.program.now self.now.row.towers.items item place walked.old }
+        requires may { MayBeTaken self.now.program.now self.now.row.towers.items item place
+            walked.old }
         ensures { IfOk result (IsItemTaken self.now.program.now self.now.row.towers.items
             (item_run self.now.program.now item place) place walked.old walked.new) }
     {
@@ -149,8 +152,8 @@ impl<'a> LoopJob<'a> {
         Ok(end)
     }
 
-    /// One item more, at this place: what counts of what leaves the chain goes into the states. An item whose fault is skipped ends
-    /// as one after which the next follows.
+    /// One item more, at this place: what counts of what leaves the chain goes into the states. An item whose fault is skipped
+    /// ends as one after which the next follows.
     pub(crate) fn take_item(
         &self,
         alloc: Global,
