@@ -35,9 +35,10 @@ stage_lines number (stage ∷ stages) = stage_line number stage ∷ stage_lines 
 abbrev pub reduce_line : Named → List ℕ
 reduce_line named = codes "reduce " ++ named_text named ++ codes "\n"
 
--- the lines for so many items, these stages and these reducers; each has its LF, and an LF inside a line parts none
+-- the lines for so many items, these stages and these reducers; each has its LF, and an LF inside one parts none
 abbrev pub lines_for : ℕ → Bool → List Stage → List Named → List (List ℕ)
-lines_for count skips stages row = items_line count ∷ (skip_lines skips ++ (stage_lines 1 stages ++ map reduce_line row))
+lines_for count skips stages row =
+    items_line count ∷ (skip_lines skips ++ (stage_lines 1 stages ++ map reduce_line row))
 
 -- the lines of a program, told how many items it has
 abbrev pub explain_lines : ProgramTree → ℕ → List (List ℕ)

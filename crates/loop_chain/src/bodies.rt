@@ -34,7 +34,8 @@ fn push_rest(
 
 /// The stages of a body: of each statement before the split statement, and from there on of all the rest together.
 fn push_body(alloc: Global, body: &[Statement], stages: &mut Vec<Stage>) -> Result<(), NoMemory>
-    ensures { OnOk result (stages.new.items ≡ stages.old.items ++ body_stages most_before_split body.now) }
+    ensures { OnOk result (stages.new.items
+        ≡ stages.old.items ++ body_stages most_before_split body.now) }
 {
     let mut room = MOST_BEFORE_SPLIT;
     for before in 0..body.len() {
@@ -81,8 +82,9 @@ fn push_inner(
     inner: &Inner,
     stages: &mut Vec<Stage>,
 ) -> Result<(), NoMemory>
-    ensures { OnOk result (stages.new.items
-        ≡ stages.old.items ++ stage.Map line (doing.Inner inner.now.name inner.now.range) ∷ stage.Cat line inner.now.name ∷ []) }
+    ensures { OnOk result (stages.new.items ≡ stages.old.items
+        ++ stage.Map line (doing.Inner inner.now.name inner.now.range)
+        ∷ stage.Cat line inner.now.name ∷ []) }
 {
     let name = inner.name.copy(alloc)?;
     let range = inner.range.copy(alloc)?;
@@ -107,7 +109,8 @@ fn push_inners(
     Ok(())
 }
 
-/// The stages to which a program is lowered: those of its `for` line, and then those of its body. Refused only for want of memory.
+/// The stages to which a program is lowered: those of its `for` line, and then those of its body. Refused only for want of
+/// memory.
 pub fn stages_of(alloc: Global, program: &ProgramTree) -> Result<Vec<Stage>, NoMemory>
     ensures { IfOk result (λ stages. stages.items ≡ lowered program.now) }
 {

@@ -32,7 +32,8 @@ fn reduce_line(alloc: Global, named: &Named) -> Result<String, AllocError>
 
 /// One line more, in a program that skips faults.
 fn add_skip_line(alloc: Global, skips: bool, lines: &mut Vec<Vec<u8>>) -> Result<(), NoMemory>
-    ensures { OnOk result (lines_in lines.new.items ≡ lines_in lines.old.items ++ skip_lines skips) }
+    ensures { OnOk result (lines_in lines.new.items
+        ≡ lines_in lines.old.items ++ skip_lines skips) }
 {
     if !skips {
         return Ok(());
@@ -48,7 +49,8 @@ fn add_stage_lines(
     stages: &[Stage],
     lines: &mut Vec<Vec<u8>>,
 ) -> Result<(), NoMemory>
-    ensures { OnOk result (lines_in lines.new.items ≡ lines_in lines.old.items ++ stage_lines 1 stages.now) }
+    ensures { OnOk result (lines_in lines.new.items
+        ≡ lines_in lines.old.items ++ stage_lines 1 stages.now) }
 {
     let mut number = 1;
     for stage in stages {
@@ -61,7 +63,8 @@ fn add_stage_lines(
 
 /// A line for each reducer.
 fn add_reduce_lines(alloc: Global, row: &[Named], lines: &mut Vec<Vec<u8>>) -> Result<(), NoMemory>
-    ensures { OnOk result (lines_in lines.new.items ≡ lines_in lines.old.items ++ map reduce_line row.now) }
+    ensures { OnOk result (lines_in lines.new.items
+        ≡ lines_in lines.old.items ++ map reduce_line row.now) }
 {
     for named in row {
         let line = reduce_line(alloc, named)?;
@@ -80,7 +83,8 @@ pub fn explain_lines(
     stages: &[Stage],
     row: &[Named],
 ) -> Result<Vec<Vec<u8>>, NoMemory>
-    ensures { IfOk result (λ lines. lines_in lines.items ≡ lines_for count skips stages.now row.now) }
+    ensures { IfOk result (λ lines. lines_in lines.items
+        ≡ lines_for count skips stages.now row.now) }
 {
     let mut lines = Vec::new(alloc);
     let line = items_line(alloc, count)?;

@@ -65,7 +65,8 @@ fn push_block(
     statement: &Statement,
     stages: &mut Vec<Stage>,
 ) -> Result<(), NoMemory>
-    ensures { OnOk result (stages.new.items ≡ stages.old.items ++ if_stages line any_other statement.now) }
+    ensures { OnOk result (stages.new.items
+        ≡ stages.old.items ++ if_stages line any_other statement.now) }
 {
     let held = held_in(statement);
     let statement = statement.copy(alloc)?;
@@ -111,7 +112,8 @@ fn push_one_branch(
     stages: &mut Vec<Stage>,
 ) -> Result<(), NoMemory>
     ensures { OnOk result (stages.new.items
-        ≡ stages.old.items ++ if_stages line (block_form branch.now.test branch.now.block) statement.now) }
+        ≡ stages.old.items
+        ++ if_stages line (block_form branch.now.test branch.now.block) statement.now) }
 {
     match branch.block.as_slice() {
         [Statement::Continue { line: _ }] => {
@@ -149,7 +151,8 @@ fn push_if(
     stages: &mut Vec<Stage>,
 ) -> Result<(), NoMemory>
     ensures { OnOk result (stages.new.items
-        ≡ stages.old.items ++ if_stages line (if_form branches.now else_line other.now) statement.now) }
+        ≡ stages.old.items
+        ++ if_stages line (if_form branches.now else_line other.now) statement.now) }
 {
     match (branches, else_line, other) {
         ([branch], 0, []) => push_one_branch(alloc, line, branch, statement, stages),

@@ -1,5 +1,6 @@
 pub mod CatLemmas
 pub mod EndLemmas
+pub mod FitLemmas
 pub mod ItemLemmas
 pub mod LowerLemmas
 pub mod PartLemmas

@@ -1,15 +1,13 @@
 -- The run over the items of a part so far, one item more, and the whole, as a part follows them.
-use Rattle.std.proofs.Common.{◌≡◌, ◌≢◌, ℕ, true, ◌+◌, ◌<◌, ◌≤◌, ◌^◌, List, [], ◌∷◌, ◌++◌, length, take, drop, refl, sym, ap, subst, ◌∙◌, append-nil, length-append, length-take, length-drop, arith}
+use Rattle.std.proofs.Common.{◌≡◌, ◌≢◌, ℕ, ◌+◌, ◌<◌, ◌≤◌, List, [], ◌∷◌, ◌++◌, length, take, drop, refl, sym, ap, subst, ◌∙◌, length-take, length-drop, arith}
 use Rattle.std.proofs.Math.Seq.{take-add}
 use Rattle.std.proofs.lemmas.List.{take-append-drop, take_all, drop-drop}
 use Rattle.loop_data.specs.declared.value.Value.{Value}
 use Rattle.loop_grammar.specs.declared.tree.ProgramTree.{ProgramTree}
 use Rattle.legality_rules.specs.Offences.{IsLegal}
-use Rattle.loop_meaning.specs.declared.runs.PlainStop.{PlainStop}
 use Rattle.loop_meaning.specs.declared.runs.PlainStop.TheVariants as stop
 use Rattle.loop_meaning.specs.declared.runs.Run.{Run}
-use Rattle.loop_meaning.specs.declared.steps.Pair.{Pair}
-use Rattle.loop_meaning.specs.Runs.{after_stop, followed_by}
+use Rattle.loop_meaning.specs.Runs.{after_stop}
 use Rattle.loop_meaning.specs.Stores.{start_store}
 use Rattle.loop_meaning.proofs.RunLemmas.{nothing_follows}
 use Rattle.loop_meaning.proofs.StopLemmas.{skips_at_most}
@@ -17,20 +15,16 @@ use Rattle.carries_nothing.specs.Parts.{GivesSame, from_start}
 use Rattle.carries_nothing.proofs.Cuts.{legal_carries_nothing}
 use Rattle.reducer_tower.specs.declared.named.Named.{Named}
 use Rattle.reducer_tower.specs.Rows.{RowStands}
-use Rattle.program_rows.specs.Pairs.{numbered, pairs_fit}
+use Rattle.program_rows.specs.Pairs.{numbered}
 use Rattle.program_rows.specs.Pairs.{HaveRoom}
 use Rattle.fold_seq.specs.declared.answers.Reduced.TheVariants.{Going, Stopped, Faulted}
 use Rattle.loop_stages.specs.Breaks.{stage_line}
 use Rattle.loop_standing.specs.Standing.{Answers, HoldsRun, IsUnit}
-use Rattle.program_rows.proofs.PairLemmas.{fit_parts, numbered-append, numbered_few}
-use Rattle.loop_lower.specs.Walked.{Adds, item_run}
+use Rattle.program_rows.proofs.PairLemmas.{numbered-append, numbered_few}
+use Rattle.number_ranges.specs.Ranges.{most_items}
+use Rattle.fitting_inputs.proofs.LegalRuns.{legal_parts_emit_few, legal_steps_emit_few}
+use Rattle.loop_lower.specs.Walked.{Adds, item_run, step_pairs}
 use Rattle.loop_lower.specs.declared.part.Walked.{Walked}
-
--- what a run emits begins what it and another after it emit
-begins : (how : PlainStop) (run more : Run) → (rest : List Pair) × ((after_stop how run more).emitted ≡ run.emitted ++ rest)
-begins stop.Ran run more = (more.emitted, refl)
-begins (stop.Break at line) run more = ([], sym (append-nil run.emitted))
-begins (stop.Fault at line kind) run more = ([], sym (append-nil run.emitted))
 
 module _ (program : ProgramTree) (legal : IsLegal program) (row : List Named) (items : List Value) (first : ℕ) where
   abbrev pub whole : Run
@@ -69,7 +63,7 @@ module _ (program : ProgramTree) (legal : IsLegal program) (row : List Named) (i
     abbrev pub next_item : Run
     next_item = item_run program item (first + n)
 
-    dropped : drop n items ≡ item ∷ left
+    pub dropped : drop n items ≡ item ∷ left
     dropped = sym w.left ∙ e
 
     pub there : n < length items
@@ -90,29 +84,13 @@ module _ (program : ProgramTree) (legal : IsLegal program) (row : List Named) (i
         (subst (λ p. GivesSame (from_start program (take n items ++ item ∷ []) first) (after_stop stop.Ran (so_far n) (item_run program item p))) place
         (subst (λ how. GivesSame (from_start program (take n items ++ item ∷ []) first) (after_stop how (so_far n) (item_run program item (first + length (take n items))))) w.ran cut))
 
-    -- the whole emits what the items so far emit, then what this one does
-    pub whole_emits : (more : List Pair) × (whole.emitted ≡ ((so_far n).emitted ++ next_item.emitted) ++ more)
-    whole_emits =
-        let run = so_far (n + 1) in
-        let further = from_start program (drop (n + 1) items) (first + length (take (n + 1) items)) in
-        let (more, is) = begins run.stop run further in
-        let cut = legal_carries_nothing program legal (take (n + 1) items) (drop (n + 1) items) first in
-        let all : whole.emitted ≡ (followed_by run further).emitted = ap (λ xs. (from_start program xs first).emitted) (sym (take-append-drop (n + 1) items)) ∙ cut.emitted in
-        (more, all ∙ is ∙ ap (λ pairs. pairs ++ more) with_next.emitted)
-
-    pub next_fits : pairs_fit row whole.emitted ≡ true → pairs_fit row next_item.emitted ≡ true
-    next_fits fit =
-        let (more, is) = whole_emits in
-        let all = subst (λ pairs. pairs_fit row pairs ≡ true) is fit in
-        let both = (fit_parts row ((so_far n).emitted ++ next_item.emitted) more all).0 in
-        (fit_parts row (so_far n).emitted next_item.emitted both).1
-
-    pub next_has_room : length whole.emitted ≤ 2 ^ 61 → HaveRoom row walked.state.row (length next_item.emitted)
+    -- the states have room for what the step of the item emits
+    pub next_has_room : length items ≤ most_items → HaveRoom row walked.state.row (length (step_pairs program item (first + n)))
     next_has_room few =
-        let (more, is) = whole_emits in (
+        let fewer : length (take n items) ≤ most_items = omega (arith, few, length-take n items) in (
           numbered row (so_far n).emitted,
           w.holds.stands,
-          omega (arith, few, ap length is, length-append ((so_far n).emitted ++ next_item.emitted) more, length-append (so_far n).emitted next_item.emitted, numbered_few row (so_far n).emitted),
+          omega (arith, numbered_few row (so_far n).emitted, legal_parts_emit_few program (start_store program) (take n items) first legal fewer, legal_steps_emit_few program (start_store program) item (first + n) legal),
         )
 
     -- the states with what the item emits hold the run with that item

@@ -25,8 +25,8 @@ impl<'a> LoopJob<'a> {
     /// The end of the loop, of what a fold of the whole answered: the start values are put into the states, and the plain loop
     /// over the items, from the start and place 1, ends so. Refused only for want of memory.
     pub fn end(&self, alloc: Global, answer: Reduced<LoopState>) -> Result<LoopEnd, NoMemory>
-        requires { StretchStands self.now.program.now self.now.row.towers.items self.now.head.items 1
-            (item_count self.now.head.lens) answer }
+        requires { StretchStands self.now.program.now self.now.row.towers.items self.now.head.items
+            1 (item_count self.now.head.lens) answer }
         ensures { IfOk result (IsEnd self.now.row.towers.items
             (run_over self.now.program.now self.now.head.items)) }
     {

@@ -25,8 +25,8 @@ use splittable::{Part, Shape};
 use std::alloc::Global;
 use transducer_kit::Chain;
 
-/// A legal loop over the items of its head. What is known of its parts is a ghost field, so that whoever makes one proves it, and the
-/// laws of a job read it there.
+/// A legal loop over the items of its head, as work that can be done in parts. What is known of its fields are ghost fields, so
+/// that whoever makes a job proves it, and the laws of a job read it there.
 #[derive(Drop)]
 pub struct LoopJob<'a> {
     pub program: &'a LegalProgram,

@@ -1,5 +1,5 @@
-//! Tests of loops as jobs: each part of small loops of every form against the plain loop, the lines that explain a loop, and the order
-//! of refusals.
+//! Tests of loops as jobs: each part of small loops of every form against the plain loop, the lines that explain a loop, and the
+//! order of refusals.
 #![tactic(auto)]
 
 #[cfg(test)]

@@ -86,10 +86,11 @@ static LOOPS: [(&str, &str, u32); 12] = [
 ];
 
 /// A loop as a job, with what the plain loop takes.
-struct Case<'a> {
-    job: &'a LoopJob<'a>,
-    program: &'a Program,
-    items: &'a ItemList,
+#[derive(Drop)]
+struct Case<'c, 'j> {
+    job: &'c LoopJob<'j>,
+    program: &'c Program,
+    items: &'c ItemList,
     line: u32,
 }
 
@@ -128,7 +129,7 @@ fn answer_text(alloc: Global, answer: &Reduced<LoopState>) -> Result<String, Fai
 }
 
 /// The text of the plain loop over so many items from a place on.
-fn plain_text(alloc: Global, case: &Case<'_>, first: u64, len: u64) -> Result<String, Fail> {
+fn plain_text(alloc: Global, case: &Case<'_, '_>, first: u64, len: u64) -> Result<String, Fail> {
     let start = (first as usize).wrapping_sub(1);
     let end = start.wrapping_add(len as usize);
     let Some(items) = case.items.as_slice().get(start..end) else {
@@ -139,7 +140,7 @@ fn plain_text(alloc: Global, case: &Case<'_>, first: u64, len: u64) -> Result<St
 }
 
 /// Checks a part, and its halves, their halves and so on.
-fn check_part<H: Abort>(rt: &H, alloc: Global, case: &Case<'_>, part: Part) -> Result<(), Fail>
+fn check_part<H: Abort>(rt: &H, alloc: Global, case: &Case<'_, '_>, part: Part) -> Result<(), Fail>
     requires lens { part.lens ≡ case.now.job.now.head.lens }
     requires node { IsNode part.lens 1 part }
 {
@@ -156,7 +157,15 @@ fn check_part<H: Abort>(rt: &H, alloc: Global, case: &Case<'_>, part: Part) -> R
     }
 }
 
-/// Checks each node of a loop.
+/// Checks each part of a job: the whole, its halves, and so on.
+fn check_job<H: Abort>(rt: &H, alloc: Global, case: &Case<'_, '_>) -> Result<(), Fail> {
+    match case.job.shape().whole() {
+        Some(whole) => check_part(rt, alloc, case, whole),
+        None => Err(Fail::from("no items")),
+    }
+}
+
+/// Checks each part of a loop.
 fn check_loop<H: Abort>(
     rt: &H,
     alloc: Global,
@@ -164,20 +173,18 @@ fn check_loop<H: Abort>(
     data: &str,
     line: u32,
 ) -> Result<(), Fail> {
-    let program = legal(alloc, text)?;
+    let legal = legal(alloc, text)?;
     let table = table_of(alloc, data)?;
-    let items = items_of(alloc, program.program(), &table)?;
-    let job = lower(alloc, &program, &table).map_err(|_| "not lowered")?;
+    let program = legal.program();
+    let items = items_of(alloc, program, &table)?;
+    let job = lower(alloc, &legal, &table).map_err(|_| "not lowered")?;
     let case = Case {
         job: &job,
-        program: program.program(),
+        program,
         items: &items,
         line,
     };
-    let Some(whole) = job.shape().whole() else {
-        return Err(Fail::from("no items"));
-    };
-    check_part(rt, alloc, &case, whole)
+    check_job(rt, alloc, &case)
 }
 
 #[test]

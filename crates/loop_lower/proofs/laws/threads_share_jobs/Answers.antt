@@ -1,5 +1,4 @@
 use denote.Param.Send.{param_send, param_sync, arg_send, arg_sync, sendable}
-use Rattle.std.proofs.Crossing.{crosses}
 use Rattle.loop_items.proofs.heads.HeadItems.TheSendSync as heads
 use Rattle.loop_lower.proofs.Shared.{legal_send, legal_sync, chain_send, chain_sync, row_send, row_sync, env_send, env_sync}
 use Rattle.loop_lower.proofs.laws.threads_share_jobs.Goals as goal

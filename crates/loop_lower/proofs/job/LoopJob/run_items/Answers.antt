@@ -1,11 +1,9 @@
-use Rattle.std.proofs.Common.{◌≡◌, ◌≤◌, ◌+◌, ◌^◌, true, length, sym, subst, arith}
-use Rattle.carries_nothing.specs.Parts.{from_start}
+use Rattle.std.proofs.Common.{◌≤◌, ◌+◌, ◌-◌, drop, length, sym, ap, ◌∙◌, subst, length-take, length-drop, arith}
+use Rattle.number_ranges.specs.Ranges.{most_items}
 use Rattle.loop_items.specs.Walks.{IsTaken}
-use Rattle.program_rows.specs.Pairs.{pairs_fit}
-use Rattle.loop_standing.proofs.MergeLemmas.{pairs_few}
 use Rattle.loop_lower.specs.Walked.{IsItemTaken, item_run}
-use Rattle.loop_lower.proofs.ItemLemmas.{stretch_pairs_fit}
-use Rattle.loop_lower.proofs.PartLemmas.{break_ends, fault_ends, next_fits, next_has_room, none_left, ran_out, skipped_few, walk_goes_on}
+use Rattle.loop_lower.proofs.FitLemmas.{item_pairs_fit}
+use Rattle.loop_lower.proofs.PartLemmas.{break_ends, dropped, fault_ends, next_has_room, none_left, ran_out, skipped_few, walk_goes_on}
 use Rattle.loop_lower.proofs.job.LoopJob.run_items.Goals as goal
 
 pub returns-in_default : goal.returns-in_default
@@ -17,27 +15,25 @@ returns-in_default c =
 
 -- ---- one item more
 
-pub take_item-requires-clause-skipped : goal.take_item-requires-clause-skipped
-take_item-requires-clause-skipped c =
+pub take_item-requires : goal.take_item-requires
+take_item-requires c =
     let job = c.args.self.now in
-    let few = skipped_few job.program.now job.known.legal job.row.towers.items c.args.walk.now c.args.first c.loop-before.before c.loop-before.walk c.loop-before.walked c.loop-before.invariant in
-    omega (arith, few, c.loop-before-test.true, c.requires.within, c.requires.low, job.known.few_items)
-
-pub take_item-requires-clause-fit : goal.take_item-requires-clause-fit
-take_item-requires-clause-fit c =
-    let job = c.args.self.now in
+    let P = job.program.now in
+    let row = job.row.towers.items in
     let item = subst (λ taken. IsTaken taken c.loop-before.walk c.next.new.self) c.in-Some.is c.in_ok-item.ensures.taken in
-    let fit = subst (λ xs. pairs_fit job.row.towers.items (from_start job.program.now xs c.args.first).emitted ≡ true) (sym c.requires.items)
-    (stretch_pairs_fit job.program.now job.head.items job.row.towers.items job.known job.of_head job.row_is c.args.first c.args.count c.requires.low) in
-    next_fits job.program.now job.known.legal job.row.towers.items c.args.walk.now c.args.first c.loop-before.before c.loop-before.walk c.next.new.self c.in-Some.item c.loop-before.walked c.loop-before.invariant item fit
-
-pub take_item-requires-clause-room : goal.take_item-requires-clause-room
-take_item-requires-clause-room c =
-    let job = c.args.self.now in
-    let item = subst (λ taken. IsTaken taken c.loop-before.walk c.next.new.self) c.in-Some.is c.in_ok-item.ensures.taken in
-    let less = subst (λ xs. length (from_start job.program.now xs c.args.first).emitted ≤ 2 ^ 58) (sym c.requires.items) (pairs_few job.program.now job.head.items c.args.first c.args.count job.known) in
-    let few : length (from_start job.program.now c.args.walk.now c.args.first).emitted ≤ 2 ^ 61 = omega (arith, less) in
-    next_has_room job.program.now job.known.legal job.row.towers.items c.args.walk.now c.args.first c.loop-before.before c.loop-before.walk c.next.new.self c.in-Some.item c.loop-before.walked c.loop-before.invariant item few
+    let few = skipped_few P job.known.legal row c.args.walk.now c.args.first c.loop-before.before c.loop-before.walk c.loop-before.walked c.loop-before.invariant in
+    let there = ap (drop c.loop-before.before) (sym c.requires.items)
+    ∙ dropped P job.known.legal row c.args.walk.now c.args.first c.loop-before.before c.loop-before.walk c.next.new.self c.in-Some.item c.loop-before.walked c.loop-before.invariant item in
+    let all : length c.args.walk.now ≤ most_items = subst (λ xs. length xs ≤ most_items) (sym c.requires.items)
+    (omega (arith, length-take c.args.count (drop (c.args.first - 1) job.head.items), length-drop (c.args.first - 1) job.head.items, job.known.few_items)) in
+    record {
+      low = omega (arith, c.loop-before-test.true, c.requires.within, job.known.few_items);
+      few = omega (arith, few, c.loop-before-test.true, c.requires.within, c.requires.low, job.known.few_items);
+      emptied = c.loop-before.invariant.emptied;
+      fit = item_pairs_fit P job.head.items row job.known job.of_head job.row_is c.args.first c.args.count c.loop-before.before c.in-Some.item c.next.new.self there
+          (c.args.first + c.loop-before.before) (omega (arith, c.requires.low)) (omega (arith, c.loop-before-test.true, c.requires.within, job.known.few_items));
+      room = next_has_room P job.known.legal row c.args.walk.now c.args.first c.loop-before.before c.loop-before.walk c.next.new.self c.in-Some.item c.loop-before.walked c.loop-before.invariant item all;
+    }
 
 pub loop-before-preserved : goal.loop-before-preserved
 loop-before-preserved c =
