@@ -145,7 +145,7 @@ pub seq_is_lawful : (request : Request) (program : ProgramTree) (head : Head) (t
 seq_is_lawful request program head tally seq counted ran none =
     let place = stop_place (whole_run program head.items).stop in
     let lawful : IsLawfulReport (leaves_of head.lens (max 1 (item_count head.lens))) (item_count head.lens) (workers_of request) place tally.ran 0 =
-        whole_is_lawful head.lens (workers_of request) tally.ran place (run_stops program (start_store program) head.items 1)
-        (λ e. none_stops program (start_store program) head.items 1 (sym counted ∙ e)) (ran ∙ ap (λ n. min n 1) (sym counted)) in
+    whole_is_lawful head.lens (workers_of request) tally.ran place (run_stops program (start_store program) head.items 1)
+    (λ e. none_stops program (start_store program) head.items 1 (sym counted ∙ e)) (ran ∙ ap (λ n. min n 1) (sym counted)) in
     subst (λ e. IsLawfulReport (leaves_of head.lens (least_of e (base_of request) head.lens)) (item_count head.lens) (workers_of request) place tally.ran tally.items_skipped) (sym seq)
     (subst (λ skipped. IsLawfulReport (leaves_of head.lens (max 1 (item_count head.lens))) (item_count head.lens) (workers_of request) place tally.ran skipped) (sym none) lawful)
