@@ -51,11 +51,15 @@ fn check(rt: &impl Abort, alloc: Global, call: Call, rows: &[Row]) -> Result<(),
     Ok(())
 }
 
-static REQUESTS: [Row; 9] = [
+static REQUESTS: [Row; 10] = [
     ("run|loop=a", "run [loop] a"),
     ("check|loop=a", "check [loop] a"),
     // in any order
     ("check|data=b|loop=a", "check [loop] a [data] b"),
+    (
+        "run|report=no|workers=32|base=1|executor=seq|loop=a",
+        "run [loop] a [executor] seq [base] 1 [workers] 32 [report] no",
+    ),
     // cut at the first `=`
     ("run|loop=a=b", "run [loop] a=b"),
     ("run|loop==", "run [loop] ="),

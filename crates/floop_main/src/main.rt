@@ -7,13 +7,15 @@ use piece_ledger::OpenGate;
 use std::alloc::AllocError;
 use std::env;
 use std::process::ExitCode;
+use std::thread::Threads;
 
 fn main(rt: HostRuntime) -> ExitCode {
-    ExitCode::from(exit_code(run(&rt)))
+    ExitCode::from(exit_code(run(&rt, &rt)))
 }
 
-/// Runs the program on its words. Where they can't be had as texts, nothing is written.
-fn run(rt: &HostRuntime) -> Result<Status, AllocError> {
+/// Runs the program on its words. Where they can't be had as texts, nothing is written. Threads are had of the second runtime,
+/// since `main` alone can give it as one that starts them.
+fn run<R: Threads + Sync>(rt: &HostRuntime, threads: &R) -> Result<Status, AllocError> {
     let alloc = rt.alloc();
     let mut words = match env::args(rt) {
         Ok(words) => words,
@@ -24,5 +26,7 @@ fn run(rt: &HostRuntime) -> Result<Status, AllocError> {
     let words: Vec<String> = words.collect(alloc)?;
     let mut files = HostFiles::new(rt.clone()?);
     let mut out = HostSink::new(rt.clone()?);
-    Ok(floop_words(rt, alloc, &words, &mut files, &mut out, &OpenGate))
+    Ok(floop_words(
+        threads, alloc, &words, &mut files, &mut out, &OpenGate,
+    ))
 }

@@ -131,9 +131,11 @@ request_answer call words r held answer e a = subst (λ x. IsRequestAnswer x hel
 
 -- the output of a refusal of the words
 pub refused_output : (call : Call) (words : List (List ℕ)) (text : List ℕ) (held : Held) (o : Output) → request_in call words ≡ Err text → written_in o ≡ refusal_written text → IsOutputOf (IsAnswer call words held) (IsWritten call words) o
-refused_output call words text held o e same =
-    (refused text, request_answer call words (Err text) held (refused text) e no_request,
-    subst (λ r. IsWrittenFor r (refused text) (written_in o)) (sym e) (ap (λ (w : Written). w.status) same, ap (λ (w : Written). w.lines) same))
+refused_output call words text held o e same = (
+  refused text,
+  request_answer call words (Err text) held (refused text) e no_request,
+  subst (λ r. IsWrittenFor r (refused text) (written_in o)) (sym e) (ap (λ (w : Written). w.status) same, ap (λ (w : Written). w.lines) same),
+)
 
 -- the answer of the request that the words are is that of the words
 pub asked_answers : (call : Call) (words : List (List ℕ)) (q : Request) (held : Option Held) → request_in call words ≡ Ok q → IfSome held (λ h. (answer : Answer) → IsAskedAnswer q h answer → IsAnswer call words h answer)

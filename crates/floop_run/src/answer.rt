@@ -89,7 +89,8 @@ pub fn output_for<W: Runner, F: Files>(
         IfOk result (λ o. written_in o ≡ refusal_written text)) }
     ensures words_unread { IfErr (request_in call (texts words.now)) (λ text.
         F.reads files.new ≡ F.reads files.old) }
-    ensures words_taken { result ≡ Err OutputStop.ReadFault → IsOk (request_in call (texts words.now)) }
+    ensures words_taken { result ≡ Err OutputStop.ReadFault →
+        IsOk (request_in call (texts words.now)) }
 {
     match request_of(call, words) {
         Ok(request) => loop_output(alloc, runner, &request, files),
@@ -104,8 +105,8 @@ fn loop_output<W: Runner, F: Files>(
     request: &Request<'_>,
     files: &mut F,
 ) -> Result<Output, OutputStop>
-    ensures { MakesOutput (IsAskedAnswer (request_seen request.now)) (IsWrittenOf (request_seen request.now))
-        (1 + length (data_names (request_seen request.now))) result
+    ensures { MakesOutput (IsAskedAnswer (request_seen request.now))
+        (IsWrittenOf (request_seen request.now)) (1 + length (data_names (request_seen request.now))) result
         (F.held files.old) (F.held files.new) (F.reads files.old) (F.reads files.new)
         (F.faults files.old) (F.faults files.new) }
 {
@@ -150,7 +151,8 @@ fn refusal(alloc: Global, text: &str) -> Result<Output, NoMemory>
 
 /// An output of one line.
 pub(crate) fn one_line(alloc: Global, status: Status, line: String) -> Result<Output, NoMemory>
-    ensures { IfOk result (λ o. written_in o ≡ record { status = status; lines = string_bytes line ∷ [] }) }
+    ensures { IfOk result (λ o. written_in o
+        ≡ record { status = status; lines = string_bytes line ∷ [] }) }
 {
     let lines = vec![in alloc; line.into_bytes()]?;
     Ok(Output { status, lines })
@@ -165,8 +167,10 @@ fn text_output<W: Runner, F: Files>(
     files: &mut F,
 ) -> Result<Output, OutputStop>
     requires { length bytes.now ≤ loop_file_limit }
-    ensures { MakesOutput (λ held answer. IsTextAnswer (request_seen request.now) held bytes.now answer)
-        (IsWrittenOf (request_seen request.now)) (length (data_names (request_seen request.now))) result
+    ensures { MakesOutput
+        (λ held answer. IsTextAnswer (request_seen request.now) held bytes.now answer)
+        (IsWrittenOf (request_seen request.now))
+        (length (data_names (request_seen request.now))) result
         (F.held files.old) (F.held files.new) (F.reads files.old) (F.reads files.new)
         (F.faults files.old) (F.faults files.new) }
 {
@@ -185,8 +189,10 @@ fn program_output<W: Runner, F: Files>(
     program: Program,
     files: &mut F,
 ) -> Result<Output, OutputStop>
-    ensures { MakesOutput (λ held answer. answer ≡ program_answer (request_seen request.now) held program)
-        (IsWrittenOf (request_seen request.now)) (length (data_names (request_seen request.now))) result
+    ensures { MakesOutput
+        (λ held answer. answer ≡ program_answer (request_seen request.now) held program)
+        (IsWrittenOf (request_seen request.now))
+        (length (data_names (request_seen request.now))) result
         (F.held files.old) (F.held files.new) (F.reads files.old) (F.reads files.new)
         (F.faults files.old) (F.faults files.new) }
 {
@@ -206,8 +212,10 @@ fn legal_output<W: Runner, F: Files>(
     files: &mut F,
 ) -> Result<Output, OutputStop>
     ensures { MakesOutput (λ held answer. answer
-        ≡ table_answer (data_table (data_names (request_seen request.now)) held) (request_seen request.now) held legal.now)
-        (IsWrittenOf (request_seen request.now)) (length (data_names (request_seen request.now))) result
+        ≡ table_answer (data_table (data_names (request_seen request.now)) held)
+        (request_seen request.now) held legal.now)
+        (IsWrittenOf (request_seen request.now))
+        (length (data_names (request_seen request.now))) result
         (F.held files.old) (F.held files.new) (F.reads files.old) (F.reads files.new)
         (F.faults files.old) (F.faults files.new) }
 {
@@ -230,7 +238,8 @@ fn table_output<W: Runner>(
     table: &Table,
 ) -> Result<Output, NoMemory>
     ensures answer { (held : Held) → IfOk result (λ o. IsWrittenOf (request_seen request.now)
-        (head_answer (first_head_refusal legal.now table.now) (request_seen request.now) held legal.now table.now)
+        (head_answer (first_head_refusal legal.now table.now)
+        (request_seen request.now) held legal.now table.now)
         (written_in o)) }
     ensures answered { IfOk result (λ o. IsAnswered o.status) }
 {

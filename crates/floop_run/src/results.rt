@@ -116,7 +116,8 @@ fn done_output(
     skipped: u64,
 ) -> Result<Output, NoMemory>
     requires { StandForSome row.now state.now }
-    ensures answer { IfOk result (λ o. (run : Run) → AreResults legal.now row.now state.now run.emitted → skipped ≡ run.skipped →
+    ensures answer { IfOk result (λ o. (run : Run) →
+        AreResults legal.now row.now state.now run.emitted → skipped ≡ run.skipped →
         written_in o ≡ record { status = Status.Done; lines = results_lines legal.now run }) }
     ensures answered { IfOk result (λ o. IsAnswered o.status) }
 {
@@ -167,7 +168,8 @@ fn add_report(
     lines: &mut Vec<Vec<u8>>,
 ) -> Result<(), NoMemory>
     ensures { OnOk result (lines_in lines.new.items
-        ≡ lines_in lines.old.items ++ report_lines (wants_report (request_seen request.now)) tally) }
+        ≡ lines_in lines.old.items
+        ++ report_lines (wants_report (request_seen request.now)) tally) }
 {
     if !request.wants_report() {
         return Ok(());

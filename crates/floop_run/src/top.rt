@@ -23,11 +23,16 @@ use std::thread::Threads;
 /// The words are a command and its settings, as `program_words` reads them: `run` or `check` with `loop=NAME`, the name of a
 /// loop file of at most 65,536 bytes, and maybe `data=NAMES`, the names of one to eight data files of at most 67,108,864
 /// bytes each. `run` writes the result of each `print` line, and how many faults were skipped where the loop skips them, or
-/// the fault that stopped the loop;
-/// `check` writes how many items and reducers there are. Where something is refused, both write the first reason: of the
-/// words, the loop file, its legality, the data files, the head. Each line is one put, with its LF.
+/// the fault that stopped the loop; `check` writes how many items and reducers there are. Where something is refused, both
+/// write the first reason: of the words, the loop file, its legality, the data files, the head. Each line is one put, with
+/// its LF.
 ///
-/// The clauses tie the status and what was written to the answer, `IsAnswer` in specs/Answers, of which there is just one:
+/// `run` may say in which way it folds the loop, by `executor`, `base` and `workers`, on which no answer depends. With
+/// `report=yes` one more line tells how many parts were run and how many items skipped. Threads are had of `rt`, and `gate`
+/// is called before a leaf is run on threads; the one executor that there is, `seq`, needs neither.
+///
+/// The clauses tie the status and what was written to the answer, `IsAnswer` in specs/Answers, of which there is just one, by
+/// what may be written for it, `IsWritten` in specs/Written:
 ///
 /// - `Done` where the loop ran, or was checked; `LoopFault` where its leftmost stop is a fault;
 /// - `Refused` where the words, the loop file, a data file or the head are refused;
@@ -50,11 +55,14 @@ pub fn floop_words<R: Threads + Sync, F: Files, K: Sink, G: Gate + Sync>(
     // Words that are no request are refused, whatever files tell; where the sink fails, a prefix of their text is left.
     ensures words_refused { WordsRefused Here (texts words.now) result
         (K.faults out.old) (K.faults out.new) (K.written out.old) (K.written out.new) }
-    ensures words_prefix { WordsPrefix Here (texts words.now) result (K.written out.old) (K.written out.new) }
+    ensures words_prefix { WordsPrefix Here (texts words.now) result
+        (K.written out.old) (K.written out.new) }
 
     // Done, LoopFault and Refused come only as the answer, also where a count rose, and then there were as many puts as lines.
-    ensures answered { Answered Here (texts words.now) (F.held files.old) result (K.written out.old) (K.written out.new) }
-    ensures put_each { AnsweredPuts Here (texts words.now) (F.held files.old) result (K.puts out.old) (K.puts out.new) }
+    ensures answered { Answered Here (texts words.now) (F.held files.old) result
+        (K.written out.old) (K.written out.new) }
+    ensures put_each { AnsweredPuts Here (texts words.now) (F.held files.old) result
+        (K.puts out.old) (K.puts out.new) }
 
     // ReadFault comes only after words that are a request, and where no read failed exactly where the answer says so.
     ensures read_fault_words { ReadFaultWords Here (texts words.now) result }
@@ -62,7 +70,8 @@ pub fn floop_words<R: Threads + Sync, F: Files, K: Sink, G: Gate + Sync>(
         (F.faults files.old) (F.faults files.new) }
     ensures not_held { NotHeldAnswer Here (texts words.now) (F.held files.old) result
         (F.faults files.old) (F.faults files.new) }
-    ensures read_fault_wrote { LeftBy Status.ReadFault result (K.written out.old) (K.written out.new) }
+    ensures read_fault_wrote { LeftBy Status.ReadFault result
+        (K.written out.old) (K.written out.new) }
     ensures read_fault_put { LeftBy Status.ReadFault result (K.puts out.old) (K.puts out.new) }
 
     // WriteFault comes only where the sink's count rose, by one, after a prefix of a text that may be written; the put that
@@ -88,7 +97,8 @@ pub fn floop_words<R: Threads + Sync, F: Files, K: Sink, G: Gate + Sync>(
 
     // There are no more reads than files named, the loop file and each data file, and none for words that are no request.
     ensures reads { FewReads Here (texts words.now) (F.reads files.old) (F.reads files.new) }
-    ensures words_unread { WordsUnread Here (texts words.now) (F.reads files.old) (F.reads files.new) }
+    ensures words_unread { WordsUnread Here (texts words.now)
+        (F.reads files.old) (F.reads files.new) }
 
     // Nothing changes of what files tell that they hold.
     ensures held { F.held files.new ≡ F.held files.old }

@@ -1,5 +1,5 @@
 -- Digits that no 64 bits hold are no number in a range of 64 bits.
-use Rattle.std.proofs.Common.{◌≡◌, ℕ, ◌<◌, ◌^◌, Bool, true, false, List, length, Option, Some, None, Result, Err, refl, ap, sym, subst, rules, arith}
+use Rattle.std.proofs.Common.{◌≡◌, ℕ, ◌<◌, ◌^◌, Bool, true, false, List, length, Some, None, Result, Err, refl, subst, rules, arith}
 use Rattle.std.specs.Prelude.{◌&&◌, nat_le, if◌then◌else◌}
 use Rattle.std.specs.Result.{OkIff}
 use Rattle.std.specs.Str.{all_ascii_digits}
@@ -23,7 +23,7 @@ not_parsed least most text r e is parses numeral small =
     let own = numerals_by_value (λ ds. all_ascii_digits ds ≡ true) tells_all_ascii_digits in
     let told = parse_digits own 64 text r parses digits in
     let wide : ((0 < length text) × (digits_value 10 text < 2 ^ 64)) → ⊥ =
-        subst (λ x. OkIff x ((0 < length text) × (digits_value 10 text < 2 ^ 64)) (digits_value 10 text)) is told in
+    subst (λ x. OkIff x ((0 < length text) × (digits_value 10 text < 2 ^ 64)) (digits_value 10 text)) is told in
     let above : digits_value 10 text < 2 ^ 64 → ⊥ = λ lt. wide (omega (arith, leb-true 1 (length text) some), lt) in
     is_none (is_numeral text) (is_between least most (digits_value 10 text)) (digits_value 10 text)
     (not_between least most (digits_value 10 text) (is_between least most (digits_value 10 text)) (omega arith) refl)

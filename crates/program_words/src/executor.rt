@@ -8,12 +8,10 @@ ghost use Rattle.program_words.specs.Executors.{executor_word, executor_named, e
 pub enum Executor {
     /// The whole as one part, on one thread.
     Seq,
-    /// By divide and conquer: halves of halves, on threads that are joined.
-    Halves,
 }
 
 /// All executors.
-const EXECUTORS: [Executor; 2] = [Executor::Seq, Executor::Halves];
+const EXECUTORS: [Executor; 1] = [Executor::Seq];
 
 impl Executor {
     /// The word by which the executor is given.
@@ -22,7 +20,6 @@ impl Executor {
     {
         match self {
             Executor::Seq => "seq",
-            Executor::Halves => "halves",
         }
     }
 }
