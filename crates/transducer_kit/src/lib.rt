@@ -5,8 +5,11 @@
 //! pipeline is read from the outside in, and an item goes through all of it before the next one is made.
 #![tactic(auto)]
 
+mod actions;
 mod answers;
 mod catting;
+mod chain;
+pub mod chain_laws;
 mod closed;
 mod filtering;
 mod folding;
@@ -16,10 +19,13 @@ mod map_splatting;
 mod mapping;
 mod reducing;
 mod reducing_if;
+mod spread;
+mod take;
 mod taking;
 
 pub use answers::PassStop;
 pub use catting::Catting;
+pub use chain::Chain;
 pub use chain_stages::StepEnd;
 pub use closed::Closed;
 pub use filtering::Filtering;
