@@ -1,5 +1,5 @@
 -- The pipelines of the tests, for any closures that answer as their stages say.
-use Rattle.std.proofs.Common.{◌≡◌, ◌≤◌, ℕ, ◌+◌, ◌^◌, Bool, true, false, List, [], ◌∷◌, ◌++◌, length, refl, sym, ap, subst, ◌∙◌, length-append, Result, Ok, Err, arith}
+use Rattle.std.proofs.Common.{◌≡◌, ◌≢◌, ◌≤◌, ℕ, ◌+◌, ◌^◌, Bool, true, false, List, [], ◌∷◌, ◌++◌, length, refl, sym, ap, subst, ◌∙◌, length-append, Result, Ok, Err, arith}
 use Rattle.std.specs.Prelude.{ℤ, pos, ◌*ℤ◌, int_lt, ⊤}
 use Rattle.std.specs.Int.{int_wrap, w64}
 use Rattle.std.specs.Borrow.{Bor}
@@ -105,3 +105,35 @@ module _ (pre1 : Bor ℤ → Type 0) (post1 : Bor ℤ → Result Bool PassStop �
       let h3 = fused (closed_gives IsSum (Unit {0})) (AtShown post3) (one_ended 4) until_over_twenty two.0 two.1 answer state total (all_of agrees3 two.0) h2 in
       let whole = closed_feeds IsSum (Unit {0}) [] three.0 three.1 answer state total tt (none state start) h3 in
       (whole.0, whole.1.1)
+
+-- ---- lists put one after another
+
+module _ (pre : Bor (List ℤ) → ℕ → Type 0) (post : Bor (List ℤ) → ℕ → Result ℤ PassStop → Type 0)
+    (may : (b : Bor (List ℤ)) (k : ℕ) → pre b k)
+    (told : (b : Bor (List ℤ)) (k : ℕ) (r : Result ℤ PassStop) → post b k r → r ≡ told_number b.now k) (free : Type 0) where
+  abbrev lists_stand : List ℤ → List ℤ → Type 0
+  lists_stand state xs = state ≡ xs
+
+  agrees_number : (list : List ℤ) (k : ℕ) → Agrees (λ j. AtShown (λ shown. post shown j) list) one_made (number_of list) k
+  agrees_number list k made (shown, e, p) = ap (one_made k) (told shown k made p ∙ ap (λ l. told_number l k) e)
+
+  abbrev lists_give : List ℤ → List ℤ × ℕ → Answer → List ℤ → Type 0
+  lists_give old x = FeedsElements (λ k. AtShown (λ shown. post shown k) x.0) (closed_gives lists_stand free) 1 x.1 old
+
+  abbrev lists_take : List ℤ → List ℤ × ℕ → Type 0
+  lists_take state x = TakesElements (λ k. MayShow (λ shown. pre shown k) x.0) (λ k. AtShown (λ shown. post shown k) x.0)
+      (λ state input. MayTake lists_stand state × Unit {0}) (closed_gives lists_stand free) 1 x.1 state
+
+  pub lists_taken : (xs : List (List ℤ × ℕ)) (state : List ℤ) → state ≡ [] → length (numbers_of xs).0 ≤ 2 ^ 62 → TakesAll lists_take lists_give xs state
+  lists_taken xs state start few =
+      takes_fused_elements (closed_gives lists_stand free) (λ state input. MayTake lists_stand state × Unit {0}) (λ list k. MayShow (λ shown. pre shown k) list)
+      (λ list k. AtShown (λ shown. post shown k) list) number_of xs (Ok Going) state
+      (all_of (λ x k least most shown e. may shown k) xs) (all_of (λ x k least most made p ne. agrees_number x.0 k made p) xs)
+      (closed_takes lists_stand free (λ input. Unit {0}) [] (numbers_of xs).0 state start few (all_of (λ x. tt) (numbers_of xs).0))
+
+  pub lists_given : (xs : List (List ℤ × ℕ)) (answer : Answer) (state new : List ℤ) → state ≡ [] → FeedsAll lists_give xs (Ok Going) state answer new → answer ≢ Err (record {}) →
+      (answer ≡ (numbers_of xs).1) × (new ≡ (numbers_of xs).0)
+  lists_given xs answer state new start h ne =
+      closed_or_failed lists_stand free [] (numbers_of xs).0 (numbers_of xs).1 answer state new start
+      (fused_elements (closed_gives lists_stand free) (λ list k. AtShown (λ shown. post shown k) list) number_of xs (Ok Going) answer state new
+       (all_of (λ x k least most made p. agrees_number x.0 k made p) xs) h) ne

@@ -5,7 +5,9 @@
 mod chains;
 #[cfg(test)]
 mod own;
+pub mod pipelines;
 #[cfg(test)]
-mod pipelines;
+mod rows;
 #[cfg(test)]
 mod stages;
+pub mod worked;

@@ -13,7 +13,7 @@ use transducer_kit::{
 };
 
 /// The sum of the squares of the numbers over 2, which ends on line 4 after the first square over 20.
-fn sum_of_squares(alloc: Global, numbers: &[i64]) -> Result<(i128, StepEnd), NoMemory>
+pub fn sum_of_squares(alloc: Global, numbers: &[i64]) -> Result<(i128, StepEnd), NoMemory>
     requires { length numbers.now ≤ 2 ^ 62 }
     ensures free { IsOk result }
     ensures total { IfOk result (λ r. r.0 ≡ sum_of (squares_of numbers.now).0) }
@@ -35,30 +35,6 @@ fn sum_of_squares(alloc: Global, numbers: &[i64]) -> Result<(i128, StepEnd), NoM
     Ok((sum, end))
 }
 
-/// How the fold ends after the first square over 20.
-fn ended() -> StepEnd {
-    StepEnd::Ended { line: 4 }
-}
-
-#[test]
-fn squares_end_with_their_item(rt: HostRuntime) -> Result<(), NoMemory> {
-    let numbers = [1, 2, 3, 4, 5, 6];
-    let rows = [
-        (0, 0, StepEnd::Going),
-        (1, 0, StepEnd::Going),
-        (2, 0, StepEnd::Going),
-        (3, 9, StepEnd::Going),
-        (4, 25, StepEnd::Going),
-        (5, 50, ended()),
-        (6, 50, ended()),
-    ];
-    for (count, sum, end) in rows {
-        let have = sum_of_squares(rt.alloc(), &numbers[..count])?;
-        assert_eq!(rt; have, (sum, end), "{count}");
-    }
-    Ok(())
-}
-
 /// The k-th number of a list, counted from 1. Past its end it faults on line 1, with kind 1.
 fn number_at(list: &[i64; 2], k: u64) -> Result<i64, PassStop>
     ensures { result ≡ told_number list.now k }
@@ -70,7 +46,7 @@ fn number_at(list: &[i64; 2], k: u64) -> Result<i64, PassStop>
 }
 
 /// The numbers of lists, one list after another. A list comes with its length.
-fn put_together(alloc: Global, lists: &[([i64; 2], u64)]) -> Result<(Many<i64>, StepEnd), NoMemory>
+pub fn put_together(alloc: Global, lists: &[([i64; 2], u64)]) -> Result<(Many<i64>, StepEnd), NoMemory>
     requires { length (numbers_of lists.now).0 ≤ 2 ^ 62 }
     ensures numbers { IfOk result (λ r. r.0 ≡ (numbers_of lists.now).0) }
     ensures end { IfOk result (λ r. Ok r.1 ≡ (numbers_of lists.now).1) }
@@ -82,25 +58,4 @@ fn put_together(alloc: Global, lists: &[([i64; 2], u64)]) -> Result<(Many<i64>, 
     let mut state = Many::new(alloc);
     let end = step_all(alloc, &all, &mut state, lists)?;
     Ok((state, end))
-}
-
-#[test]
-fn lists_are_put_one_after_another(rt: HostRuntime) -> Result<(), NoMemory> {
-    let past = StepEnd::Fault { line: 1, kind: 1 };
-    let rows: [(&[([i64; 2], u64)], &[i64], StepEnd); 3] = [
-        (
-            &[([1, 2], 2), ([0, 0], 0), ([3, 0], 1)],
-            &[1, 2, 3],
-            StepEnd::Going,
-        ),
-        (&[], &[], StepEnd::Going),
-        // past the end of the second list, after its two numbers
-        (&[([5, 0], 1), ([6, 7], 3), ([8, 9], 2)], &[5, 6, 7], past),
-    ];
-    for (lists, numbers, end) in rows {
-        let (have, answer) = put_together(rt.alloc(), lists)?;
-        assert_eq!(rt; have.as_slice(), numbers);
-        assert_eq!(rt; answer, end);
-    }
-    Ok(())
 }
