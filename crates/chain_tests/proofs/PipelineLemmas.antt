@@ -1,5 +1,5 @@
 -- The pipelines of the tests, for any closures that answer as their stages say.
-use Rattle.std.proofs.Common.{◌≡◌, ◌≢◌, ◌≤◌, ℕ, ◌+◌, ◌^◌, Bool, true, false, List, [], ◌∷◌, ◌++◌, length, refl, sym, ap, subst, ◌∙◌, length-append, Result, Ok, Err, arith}
+use Rattle.std.proofs.Common.{◌≡◌, ◌≢◌, ◌≤◌, ℕ, suc, ◌+◌, ◌^◌, Bool, true, false, List, [], ◌∷◌, ◌++◌, length, refl, sym, ap, subst, ◌∙◌, length-append, Result, Ok, Err, arith, rules}
 use Rattle.std.specs.Prelude.{ℤ, pos, ◌*ℤ◌, int_lt, ⊤}
 use Rattle.std.specs.Int.{int_wrap, w64}
 use Rattle.std.specs.Borrow.{Bor}
@@ -18,7 +18,7 @@ use Rattle.transducer_kit.proofs.Lists.{fused, fused_elements, takes_fused, take
 use Rattle.chain_tests.specs.Pipelines.{number_of, numbers_of, over_two, squared, squares_of, staged, told_number, until_over_twenty}
 
 -- a stage that lets at most one item through leaves no more than there were
-then_few : {Y : Type 0} (ys : List Y) (after : Answer) (rest : Passed Y) (n : ℕ) → length ys ≤ 1 → length rest.0 ≤ n → length (then_items ys after rest).0 ≤ 1 + n
+then_few : {Y : Type 0} (ys : List Y) (after : Answer) (rest : Passed Y) (n : ℕ) → length ys ≤ 1 → length rest.0 ≤ n → length (then_items ys after rest).0 ≤ suc n
 then_few ys (Ok Going) rest n few more = omega (arith, length-append ys rest.0)
 then_few ys (Ok (Ended line)) rest n few more = omega arith
 then_few ys (Ok (Fault line kind)) rest n few more = omega arith
@@ -129,7 +129,7 @@ module _ (pre : Bor (List ℤ) → ℕ → Type 0) (post : Bor (List ℤ) → �
       takes_fused_elements (closed_gives lists_stand free) (λ state input. MayTake lists_stand state × Unit {0}) (λ list k. MayShow (λ shown. pre shown k) list)
       (λ list k. AtShown (λ shown. post shown k) list) number_of xs (Ok Going) state
       (all_of (λ x k least most shown e. may shown k) xs) (all_of (λ x k least most made p ne. agrees_number x.0 k made p) xs)
-      (closed_takes lists_stand free (λ input. Unit {0}) [] (numbers_of xs).0 state start few (all_of (λ x. tt) (numbers_of xs).0))
+      (closed_takes lists_stand free (λ input. Unit {0}) [] (numbers_of xs).0 state start (omega (arith, few)) (all_of (λ x. tt) (numbers_of xs).0))
 
   pub lists_given : (xs : List (List ℤ × ℕ)) (answer : Answer) (state new : List ℤ) → state ≡ [] → FeedsAll lists_give xs (Ok Going) state answer new → answer ≢ Err (record {}) →
       (answer ≡ (numbers_of xs).1) × (new ≡ (numbers_of xs).0)
