@@ -88,10 +88,10 @@ module _ (pre1 : Bor ℤ → Type 0) (post1 : Bor ℤ → Result Bool PassStop �
       takes_fused gives2 takes2 (AtShown post1) one_tested over_two (MayShow pre1) xs (Ok Going) state
       (all_of (λ x shown e. may1 shown) xs) (all_of (λ x made p ne. agrees1 x made p) xs)
       (takes_fused gives3 takes3 post2 one_made squared pre2 one.0 one.1 state
-       (all_of may2 one.0) (all_of (λ x made p ne. agrees2 x made p) one.0)
-       (takes_fused (closed_gives IsSum (Unit {0})) (λ state input. MayTake IsSum state × Unit {0}) (AtShown post3) (one_ended 4) until_over_twenty (MayShow pre3) two.0 two.1 state
-        (all_of (λ x shown e. may3 shown) two.0) (all_of (λ x made p ne. agrees3 x made p) two.0)
-        (closed_takes IsSum (Unit {0}) (λ input. Unit {0}) [] three.0 state (none state start) (omega (arith, a, b, d, few)) (all_of (λ x. tt) three.0))))
+      (all_of may2 one.0) (all_of (λ x made p ne. agrees2 x made p) one.0)
+      (takes_fused (closed_gives IsSum (Unit {0})) (λ state input. MayTake IsSum state × Unit {0}) (AtShown post3) (one_ended 4) until_over_twenty (MayShow pre3) two.0 two.1 state
+      (all_of (λ x shown e. may3 shown) two.0) (all_of (λ x made p ne. agrees3 x made p) two.0)
+      (closed_takes IsSum (Unit {0}) (λ input. Unit {0}) [] three.0 state (none state start) (omega (arith, a, b, d, few)) (all_of (λ x. tt) three.0))))
 
   -- and gives what its stages make of the whole list
   pub squares_given : (xs : List ℤ) (answer : Answer) (state total : ℤ) → state ≡ pos 0 → FeedsAll gives1 xs (Ok Going) state answer total →
@@ -136,4 +136,4 @@ module _ (pre : Bor (List ℤ) → ℕ → Type 0) (post : Bor (List ℤ) → �
   lists_given xs answer state new start h ne =
       closed_or_failed lists_stand free [] (numbers_of xs).0 (numbers_of xs).1 answer state new start
       (fused_elements (closed_gives lists_stand free) (λ list k. AtShown (λ shown. post shown k) list) number_of xs (Ok Going) answer state new
-       (all_of (λ x k least most made p. agrees_number x.0 k made p) xs) h) ne
+      (all_of (λ x k least most made p. agrees_number x.0 k made p) xs) h) ne

@@ -44,22 +44,21 @@ fn fold_squares<
     step_all(alloc, &pipeline, sum, numbers)
 }
 
-/// The sum of the squares of the numbers over 2, which ends on line 4 after the first square over 20.
-pub fn sum_of_squares(alloc: Global, numbers: &[i64]) -> Result<(i128, StepEnd), NoMemory>
-    requires { length numbers.now ≤ 2 ^ 62 }
-    ensures total { IfOk result (λ r. r.0 ≡ sum_of (squares_of numbers.now).0) }
-    ensures end { IfOk result (λ r. Ok r.1 ≡ (squares_of numbers.now).1) }
+/// The sum of the squares of the numbers over 2, which ends on line 4 after the first square over 20. It begins at 0.
+pub fn sum_of_squares(alloc: Global, sum: &mut i128, numbers: &[i64]) -> Result<StepEnd, NoMemory>
+    requires few { length numbers.now ≤ 2 ^ 62 }
+    requires empty { sum.old ≡ pos 0 }
+    ensures end { result ≡ (squares_of numbers.now).1 }
+    ensures total { sum.new ≡ sum_of (squares_of numbers.now).0 }
 {
-    let mut sum = 0;
-    let end = fold_squares(
+    fold_squares(
         alloc,
         |x: &i64| -> Result<bool, PassStop> { Ok(*x > 2) },
         |x: i64| -> Result<i64, PassStop> { Ok(x.wrapping_mul(x)) },
         |x: &i64| -> Result<bool, PassStop> { Ok(*x > 20) },
-        &mut sum,
+        sum,
         numbers,
-    )?;
-    Ok((sum, end))
+    )
 }
 
 /// The k-th number of a list, counted from 1. Past its end it faults on line 1, with kind 1.

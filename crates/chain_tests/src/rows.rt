@@ -22,8 +22,9 @@ fn squares_end_with_their_item(rt: HostRuntime) -> Result<(), NoMemory> {
         (6, 50, ended()),
     ];
     for (count, sum, end) in rows {
-        let have = sum_of_squares(rt.alloc(), &numbers[..count])?;
-        assert_eq!(rt; have, (sum, end), "{count}");
+        let mut have = 0;
+        let answer = sum_of_squares(rt.alloc(), &mut have, &numbers[..count])?;
+        assert_eq!(rt; (have, answer), (sum, end), "{count}");
     }
     Ok(())
 }
