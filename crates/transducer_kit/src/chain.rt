@@ -15,7 +15,7 @@ ghost use Rattle.transducer_kit.specs.Steps.{Emits, end_is_going, unless_ended};
 use crate::spread::{put_behind, spread_copy, spread_last};
 use crate::take::take_stage;
 use chain_stages::{Element, Mark, Stage, StepEnd, cats_follow};
-use loop_data::{Many, TextValue};
+use loop_data::{Boxed, Many, TextValue};
 use loop_meaning::Pair;
 use loop_values::{Env, InnerRange};
 use no_memory::NoMemory;
@@ -76,6 +76,7 @@ impl Chain {
             },
             emitted: Many::new(alloc),
         };
+        let element = Boxed::new(alloc, element)?;
         step_at(alloc, self.stages.as_slice(), 0, element, pairs)
     }
 
@@ -152,7 +153,7 @@ fn step_at(
     alloc: Global,
     stages: &[Stage],
     at: usize,
-    element: Element,
+    element: Boxed<Element>,
     pairs: &mut Many<Pair>,
 ) -> Result<StepEnd, NoMemory>
     requires within { at ≤ length stages.now }
@@ -160,7 +161,8 @@ fn step_at(
     ensures { IfOk result (λ end. Emits (chain_output (drop at stages.now) (alone element)) pairs.old end pairs.new) }
 {
     let Some(stage) = stages.get(at) else {
-        put_behind(alloc, pairs, element.emitted)?;
+        let Element { emitted, .. } = element.into_inner();
+        put_behind(alloc, pairs, emitted)?;
         return Ok(StepEnd::Going);
     };
     match stage.cat_name() {
@@ -186,7 +188,7 @@ fn spread_at(
     stages: &[Stage],
     at: usize,
     name: &TextValue,
-    element: Element,
+    element: Boxed<Element>,
     pairs: &mut Many<Pair>,
 ) -> Result<StepEnd, NoMemory>
     requires within { at ≤ length stages.now }
@@ -195,12 +197,12 @@ fn spread_at(
     ensures { IfOk result (λ end. Emits (chain_output (drop at stages.now)
         (output (map (spread name.now element) (items_of element.inner)) Going)) pairs.old end pairs.new) }
 {
-    let count = element.inner.count;
+    let count = element.get().inner.count;
     if count == 0 {
         return Ok(StepEnd::Going);
     }
     for before in 0..count - 1 {
-        let next = spread_copy(alloc, name, &element, before + 1)?;
+        let next = spread_copy(alloc, name, element.get(), before + 1)?;
         let end = step_at(alloc, stages, at, next, pairs)?;
         if !is_going(end) {
             return Ok(end);

@@ -6,7 +6,7 @@ ghost use Rattle.transducer_kit.specs.Enters.{Enters};
 ghost use Rattle.chain_stages.specs.Stages.{spread};
 
 use chain_stages::Element;
-use loop_data::{Many, TextValue, Value};
+use loop_data::{Boxed, Many, TextValue, Value};
 use loop_meaning::Pair;
 use no_memory::NoMemory;
 use std::alloc::Global;
@@ -48,7 +48,7 @@ pub(crate) fn spread_copy(
     name: &TextValue,
     element: &Element,
     k: u64,
-) -> Result<Element, NoMemory>
+) -> Result<Boxed<Element>, NoMemory>
     requires least { 1 ≤ k }
     requires most { k ≤ element.now.inner.count }
     requires enters { Enters true element.now }
@@ -58,30 +58,43 @@ pub(crate) fn spread_copy(
     let mut env = element.env.copy(alloc)?;
     let item = element.inner.item(k);
     env.bind(alloc, name.as_str(), Value::Int(item))?;
-    Ok(Element {
+    let emitted = copy_pairs(alloc, &element.emitted)?;
+    let copy = Element {
         env,
         width: element.width * element.inner.count,
         mark: element.mark,
         inner: element.inner,
-        emitted: copy_pairs(alloc, &element.emitted)?,
-    })
+        emitted,
+    };
+    Boxed::new(alloc, copy)
 }
 
 /// The element for the last item of the inner range, which is the element itself, moved.
 pub(crate) fn spread_last(
     alloc: Global,
     name: &TextValue,
-    element: Element,
-) -> Result<Element, NoMemory>
+    element: Boxed<Element>,
+) -> Result<Boxed<Element>, NoMemory>
     requires some { 1 ≤ element.inner.count }
     requires enters { Enters true element }
     ensures { IfOk result (λ e. e ≡ spread name.now element
         (range_item element.inner.first element.inner.step (element.inner.count - 1))) }
 {
     let mut element = element;
+    make_last(alloc, name, element.get_mut())?;
+    Ok(element)
+}
+
+/// Makes of an element that for the last item of its inner range.
+fn make_last(alloc: Global, name: &TextValue, element: &mut Element) -> Result<(), NoMemory>
+    requires some { 1 ≤ element.old.inner.count }
+    requires enters { Enters true element.old }
+    ensures { OnOk result (element.new ≡ spread name.now element.old
+        (range_item element.old.inner.first element.old.inner.step (element.old.inner.count - 1))) }
+{
     let count = element.inner.count;
     let item = element.inner.item(count);
     element.env.bind(alloc, name.as_str(), Value::Int(item))?;
     element.width *= count;
-    Ok(element)
+    Ok(())
 }
