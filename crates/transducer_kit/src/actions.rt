@@ -150,12 +150,7 @@ fn do_rest(
 }
 
 /// Does to an element what a `Map` does.
-fn do_map(
-    alloc: Global,
-    line: u32,
-    action: &Doing,
-    element: &mut Element,
-) -> Result<(), PassStop>
+fn do_map(alloc: Global, line: u32, action: &Doing, element: &mut Element) -> Result<(), PassStop>
     requires enters { Enters false element.old }
     ensures leaves { Leaves (mapped line action.now element.old) result element.new }
     ensures enters { OnOk result (Enters (sets_range action.now) element.new) }

@@ -166,7 +166,7 @@ fn step_at(
         return Ok(StepEnd::Going);
     };
     match stage.cat_name() {
-        Some(name) => spread_at(alloc, stages, at + 1, name, element, pairs),
+        Some(name) => spread_at(alloc, stages, at + 1, name, element.into_inner(), pairs),
         None => {
             let (taken, after) = take_stage(alloc, stage, element)?;
             match taken {
@@ -188,7 +188,7 @@ fn spread_at(
     stages: &[Stage],
     at: usize,
     name: &TextValue,
-    element: Boxed<Element>,
+    element: Element,
     pairs: &mut Many<Pair>,
 ) -> Result<StepEnd, NoMemory>
     requires within { at ≤ length stages.now }
@@ -197,12 +197,12 @@ fn spread_at(
     ensures { IfOk result (λ end. Emits (chain_output (drop at stages.now)
         (output (map (spread name.now element) (items_of element.inner)) Going)) pairs.old end pairs.new) }
 {
-    let count = element.get().inner.count;
+    let count = element.inner.count;
     if count == 0 {
         return Ok(StepEnd::Going);
     }
     for before in 0..count - 1 {
-        let next = spread_copy(alloc, name, element.get(), before + 1)?;
+        let next = spread_copy(alloc, name, &element, before + 1)?;
         let end = step_at(alloc, stages, at, next, pairs)?;
         if !is_going(end) {
             return Ok(end);

@@ -73,7 +73,7 @@ pub(crate) fn spread_copy(
 pub(crate) fn spread_last(
     alloc: Global,
     name: &TextValue,
-    element: Boxed<Element>,
+    element: Element,
 ) -> Result<Boxed<Element>, NoMemory>
     requires some { 1 ≤ element.inner.count }
     requires enters { Enters true element }
@@ -81,20 +81,9 @@ pub(crate) fn spread_last(
         (range_item element.inner.first element.inner.step (element.inner.count - 1))) }
 {
     let mut element = element;
-    make_last(alloc, name, element.get_mut())?;
-    Ok(element)
-}
-
-/// Makes of an element that for the last item of its inner range.
-fn make_last(alloc: Global, name: &TextValue, element: &mut Element) -> Result<(), NoMemory>
-    requires some { 1 ≤ element.old.inner.count }
-    requires enters { Enters true element.old }
-    ensures { OnOk result (element.new ≡ spread name.now element.old
-        (range_item element.old.inner.first element.old.inner.step (element.old.inner.count - 1))) }
-{
     let count = element.inner.count;
     let item = element.inner.item(count);
     element.env.bind(alloc, name.as_str(), Value::Int(item))?;
     element.width *= count;
-    Ok(())
+    Boxed::new(alloc, element)
 }

@@ -25,13 +25,20 @@ use std::alloc::Global;
 /// An element or none, and the end after it.
 type Took = (Option<Boxed<Element>>, StepEnd);
 
-fn take_map(alloc: Global, line: u32, action: &Doing, element: Boxed<Element>) -> Result<Took, NoMemory>
+fn take_map(
+    alloc: Global,
+    line: u32,
+    action: &Doing,
+    element: Boxed<Element>,
+) -> Result<Took, NoMemory>
     requires enters { Enters false element }
     ensures through { IfOk result (λ took. let_through took.0 took.1 ≡ mapped line action.now element) }
     ensures enters { IfOk result (λ took. (e : Element) → took.0 ≡ Some e → Enters (sets_range action.now) e) }
 {
     let stage = Mapping::new(
-        |e: Boxed<Element>| -> Result<Boxed<Element>, PassStop> { map_element(alloc, line, action, e) },
+        |e: Boxed<Element>| -> Result<Boxed<Element>, PassStop> {
+            map_element(alloc, line, action, e)
+        },
         Taking::new(),
     );
     let mut taken = None;
@@ -85,7 +92,12 @@ fn take_splat(
     }
 }
 
-fn take_filter(alloc: Global, line: u32, test: &Test, element: Boxed<Element>) -> Result<Took, NoMemory>
+fn take_filter(
+    alloc: Global,
+    line: u32,
+    test: &Test,
+    element: Boxed<Element>,
+) -> Result<Took, NoMemory>
     requires enters { Enters false element }
     ensures through { IfOk result (λ took. let_through took.0 took.1
         ≡ filtered line (passes test.now element) element) }
@@ -123,7 +135,12 @@ fn take_keep(
     Ok((taken, end))
 }
 
-fn take_up_to(alloc: Global, line: u32, test: &Test, element: Boxed<Element>) -> Result<Took, NoMemory>
+fn take_up_to(
+    alloc: Global,
+    line: u32,
+    test: &Test,
+    element: Boxed<Element>,
+) -> Result<Took, NoMemory>
     requires enters { Enters false element }
     ensures through { IfOk result (λ took. let_through took.0 took.1
         ≡ reduced_if line (passes test.now element) element) }
@@ -140,7 +157,11 @@ fn take_up_to(alloc: Global, line: u32, test: &Test, element: Boxed<Element>) ->
 }
 
 /// What a stage, which is no `Cat`, lets through for one element: an element or none, and the end after it.
-pub(crate) fn take_stage(alloc: Global, stage: &Stage, element: Boxed<Element>) -> Result<Took, NoMemory>
+pub(crate) fn take_stage(
+    alloc: Global,
+    stage: &Stage,
+    element: Boxed<Element>,
+) -> Result<Took, NoMemory>
     requires other { cat_name stage.now ≡ None }
     requires enters { Enters false element }
     ensures through { IfOk result (λ took. let_through took.0 took.1 ≡ through stage.now element) }
