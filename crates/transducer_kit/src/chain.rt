@@ -12,7 +12,7 @@ ghost use Rattle.transducer_kit.specs.Enters.{Enters, MayEnter};
 ghost use Rattle.transducer_kit.specs.Items.{MayFold, item_output, item_pairs};
 ghost use Rattle.transducer_kit.specs.Steps.{Emits, end_is_going, unless_ended};
 
-use crate::spread::{put_behind, spread_copy, spread_last};
+use crate::spread::{leave_chain, spread_copy, spread_last};
 use crate::take::take_stage;
 use chain_stages::{Element, Mark, Stage, StepEnd, cats_follow};
 use loop_data::{Boxed, Many, TextValue};
@@ -161,8 +161,7 @@ fn step_at(
     ensures { IfOk result (λ end. Emits (chain_output (drop at stages.now) (alone element)) pairs.old end pairs.new) }
 {
     let Some(stage) = stages.get(at) else {
-        let Element { emitted, .. } = element.into_inner();
-        put_behind(alloc, pairs, emitted)?;
+        leave_chain(alloc, pairs, element)?;
         return Ok(StepEnd::Going);
     };
     match stage.cat_name() {
@@ -183,6 +182,7 @@ fn step_at(
 /// Takes the elements for the items of an element's inner range through the stages from that of this number on, one after another,
 /// up to the first that ends.
 #[cycle(steps)]
+#[inline(never)]
 fn spread_at(
     alloc: Global,
     stages: &[Stage],

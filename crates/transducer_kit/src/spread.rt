@@ -11,12 +11,22 @@ use loop_meaning::Pair;
 use no_memory::NoMemory;
 use std::alloc::Global;
 
-/// Puts pairs behind those of a list, and takes no memory where the list is empty.
-pub(crate) fn put_behind(
+/// Puts the pairs of an element behind those of a list. It is a function of its own in the program, so that the walk through a
+/// chain, which calls it once an element, has a small frame.
+#[inline(never)]
+pub(crate) fn leave_chain(
     alloc: Global,
     pairs: &mut Many<Pair>,
-    more: Many<Pair>,
+    element: Boxed<Element>,
 ) -> Result<(), NoMemory>
+    ensures { OnOk result (pairs.new ≡ pairs.old ++ element.emitted) }
+{
+    let Element { emitted, .. } = element.into_inner();
+    put_behind(alloc, pairs, emitted)
+}
+
+/// Puts pairs behind those of a list, and takes no memory where the list is empty.
+fn put_behind(alloc: Global, pairs: &mut Many<Pair>, more: Many<Pair>) -> Result<(), NoMemory>
     ensures { OnOk result (pairs.new ≡ pairs.old ++ more) }
 {
     if pairs.is_empty() {
