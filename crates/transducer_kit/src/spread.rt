@@ -6,17 +6,27 @@ ghost use Rattle.transducer_kit.specs.Enters.{Enters};
 ghost use Rattle.chain_stages.specs.Stages.{spread};
 
 use chain_stages::Element;
-use loop_data::{Many, TextValue, Value};
+use loop_data::{Boxed, Many, TextValue, Value};
 use loop_meaning::Pair;
 use no_memory::NoMemory;
 use std::alloc::Global;
 
-/// Puts pairs behind those of a list, and takes no memory where the list is empty.
-pub(crate) fn put_behind(
+/// Puts the pairs of an element behind those of a list. It is a function of its own in the program, so that the walk through a
+/// chain, which calls it once an element, has a small frame.
+#[inline(never)]
+pub(crate) fn leave_chain(
     alloc: Global,
     pairs: &mut Many<Pair>,
-    more: Many<Pair>,
+    element: Boxed<Element>,
 ) -> Result<(), NoMemory>
+    ensures { OnOk result (pairs.new ≡ pairs.old ++ element.emitted) }
+{
+    let Element { emitted, .. } = element.into_inner();
+    put_behind(alloc, pairs, emitted)
+}
+
+/// Puts pairs behind those of a list, and takes no memory where the list is empty.
+fn put_behind(alloc: Global, pairs: &mut Many<Pair>, more: Many<Pair>) -> Result<(), NoMemory>
     ensures { OnOk result (pairs.new ≡ pairs.old ++ more) }
 {
     if pairs.is_empty() {
@@ -48,7 +58,7 @@ pub(crate) fn spread_copy(
     name: &TextValue,
     element: &Element,
     k: u64,
-) -> Result<Element, NoMemory>
+) -> Result<Boxed<Element>, NoMemory>
     requires least { 1 ≤ k }
     requires most { k ≤ element.now.inner.count }
     requires enters { Enters true element.now }
@@ -58,13 +68,15 @@ pub(crate) fn spread_copy(
     let mut env = element.env.copy(alloc)?;
     let item = element.inner.item(k);
     env.bind(alloc, name.as_str(), Value::Int(item))?;
-    Ok(Element {
+    let emitted = copy_pairs(alloc, &element.emitted)?;
+    let copy = Element {
         env,
         width: element.width * element.inner.count,
         mark: element.mark,
         inner: element.inner,
-        emitted: copy_pairs(alloc, &element.emitted)?,
-    })
+        emitted,
+    };
+    Boxed::new(alloc, copy)
 }
 
 /// The element for the last item of the inner range, which is the element itself, moved.
@@ -72,7 +84,7 @@ pub(crate) fn spread_last(
     alloc: Global,
     name: &TextValue,
     element: Element,
-) -> Result<Element, NoMemory>
+) -> Result<Boxed<Element>, NoMemory>
     requires some { 1 ≤ element.inner.count }
     requires enters { Enters true element }
     ensures { IfOk result (λ e. e ≡ spread name.now element
@@ -83,5 +95,5 @@ pub(crate) fn spread_last(
     let item = element.inner.item(count);
     element.env.bind(alloc, name.as_str(), Value::Int(item))?;
     element.width *= count;
-    Ok(element)
+    Boxed::new(alloc, element)
 }
