@@ -1,9 +1,9 @@
 -- Lemmas of answers and of feeding elements.
-use Rattle.std.proofs.Common.{◌≡◌, ℕ, suc, true, false, refl, Result, Ok, Err}
+use Rattle.std.proofs.Common.{◌≡◌, ℕ, suc, Bool, true, false, [], ◌∷◌, refl, Result, Ok, Err}
 use Rattle.chain_stages.specs.declared.step_end.StepEnd.TheVariants.{Going, Ended, Fault}
 use Rattle.transducer_kit.specs.declared.answers.PassStop.{PassStop}
 use Rattle.transducer_kit.specs.Answers.{Answer, if_going, is_going}
-use Rattle.transducer_kit.specs.Passing.{StageGives, one_made}
+use Rattle.transducer_kit.specs.Passing.{StageGives, one_ended, one_made}
 use Rattle.transducer_kit.specs.Spreading.{FeedsElements}
 
 pub went_on : (answer : Answer) → is_going answer ≡ true → answer ≡ Ok Going
@@ -29,3 +29,8 @@ if_going_map (Ok Going) P P' Q f h = f h
 if_going_map (Ok (Ended line)) P P' Q f h = h
 if_going_map (Ok (Fault line kind)) P P' Q f h = h
 if_going_map (Err e) P P' Q f h = h
+
+-- whatever its test answers, a stage that ends after an item lets the item through
+pub goes_on_with : {Y : Type 0} (line : ℕ) (y : Y) (passes : Bool) → (one_ended line y (Ok passes)).0 ≡ y ∷ []
+goes_on_with line y true = refl
+goes_on_with line y false = refl

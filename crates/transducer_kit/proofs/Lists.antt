@@ -1,10 +1,10 @@
 -- Folding a list through a stage is folding what the stage makes of the whole list.
-use Rattle.std.proofs.Common.{◌≡◌, ◌≢◌, ◌≤◌, ℕ, zero, suc, ◌+◌, Bool, true, false, List, [], ◌∷◌, ◌++◌, refl, sym, ap, subst, ◌∙◌, append_assoc, Result, Ok, Err, arith}
+use Rattle.std.proofs.Common.{◌≡◌, ◌≢◌, ◌≤◌, ℕ, zero, suc, ◌+◌, false, List, [], ◌∷◌, ◌++◌, refl, sym, ap, subst, ◌∙◌, append_assoc, Result, Ok, Err, arith}
 use Rattle.std.specs.List.{AllByRecursion}
 use Rattle.chain_stages.specs.declared.step_end.StepEnd.TheVariants.{Going, Ended, Fault}
 use Rattle.transducer_kit.specs.declared.answers.PassStop.{PassStop}
 use Rattle.transducer_kit.specs.Answers.{Answer, if_going, is_going}
-use Rattle.transducer_kit.specs.Passing.{Passed, Feeds, FeedsAll, StageGives, one_ended, one_made}
+use Rattle.transducer_kit.specs.Passing.{Passed, Feeds, FeedsAll, StageGives, StageTakes, one_made}
 use Rattle.transducer_kit.specs.Spreading.{FeedsElements, TakesElements}
 use Rattle.transducer_kit.specs.Lists.{Agrees, AgreesButForMemory, ElementsAgree, ElementsAgreeButForMemory, MayMake, TakesAll, elements, list_output, out_of_memory, spread_of, then_items}
 use Rattle.transducer_kit.proofs.Feeding.{if_going_map}
@@ -175,14 +175,13 @@ module _ {S Y : Type 0} (gives : S → Y → Answer → S → Type 0) where
     one_isnt_none passed wanted y same e =
         sym (ap (λ (p : Passed Y). p.0) (same (λ full. let h : ◌≡◌ {A = List Y} [] (y ∷ []) = sym (ap (λ (p : Passed Y). p.0) full) ∙ e in absurd (cc (h))))) ∙ e
 
-    module _ {X Made : Type 0} (answers : X → Made → Type 0) (through : X → Made → Passed Y) (stage : X → Passed Y) (may : X → Type 0) (outer : S → X → Type 0)
-        (made_outer : (state : S) (x : X) → may x → ((made : Made) (y : Y) → answers x made → (through x made).0 ≡ y ∷ [] → takes state y) → outer state x) where
+    module _ {X Made : Type 0} (answers : X → Made → Type 0) (through : X → Made → Passed Y) (stage : X → Passed Y) (may : X → Type 0) where
       -- a wrapper may take the items of a list where the inner function may take what the stage makes of the whole list
       pub takes_fused : (xs : List X) (after : Answer) (old : S) → AllByRecursion may xs → AllByRecursion (AgreesButForMemory answers through stage) xs →
-          TakesAll takes gives (list_output stage xs after).0 old → TakesAll outer (StageGives answers through gives) xs old
+          TakesAll takes gives (list_output stage xs after).0 old → TakesAll (StageTakes may answers through takes) (StageGives answers through gives) xs old
       takes_fused [] after old m agrees t = tt
       takes_fused (x ∷ xs) after old m agrees t = (
-        made_outer old x m.0 (λ made y a e.
+        (m.0, λ made y a e.
             takes_one y (stage x).1 (list_output stage xs after) old
             (subst (λ (ys : List Y). TakesAll takes gives (then_items ys (stage x).1 (list_output stage xs after)).0 old)
              (one_isnt_none (through x made) (stage x) y (agrees.0 made a) e) t)),
@@ -191,18 +190,6 @@ module _ {S Y : Type 0} (gives : S → Y → Answer → S → Type 0) where
             (takes_then (stage x).0 (stage x).1 (list_output stage xs after) old mid t
              (subst (λ (p : Passed Y). Feeds gives p old (Ok Going) mid) (went_by_stage (through x given.0) (stage x) old mid (agrees.0 given.0 given.1) given.2) given.2)),
       )
-
-    -- the wrapper that ends after an item
-    pub takes_ended : (may : Y → Type 0) (answers : Y → Result Bool PassStop → Type 0) (line : ℕ) (stage : Y → Passed Y) (xs : List Y) (after : Answer) (old : S) →
-        AllByRecursion may xs → AllByRecursion (AgreesButForMemory answers (one_ended line) stage) xs → TakesAll takes gives (list_output stage xs after).0 old →
-        TakesAll (λ state x. may x × ((passes : Bool) → answers x (Ok passes) → takes state x)) (StageGives answers (one_ended line) gives) xs old
-    takes_ended may answers line stage =
-        takes_fused answers (one_ended line) stage may (λ state x. may x × ((passes : Bool) → answers x (Ok passes) → takes state x))
-        (λ state x m f. (m, λ passes a. f (Ok passes) x a (one passes x)))
-      where
-        one : (passes : Bool) (x : Y) → (one_ended line x (Ok passes)).0 ≡ x ∷ []
-        one true x = refl
-        one false x = refl
 
     -- elements may be made and taken where the inner function may take them with what follows
     takes_elements : (may : ℕ → Type 0) (makes : ℕ → Result Y PassStop → Type 0) (element : ℕ → Passed Y) (rest : Passed Y) (k n : ℕ) (old : S) →
@@ -213,11 +200,10 @@ module _ {S Y : Type 0} (gives : S → Y → Answer → S → Type 0) where
         let more = elements element (k + 1) n in
         let t' = subst (λ (p : Passed Y). TakesAll takes gives p.0 old) (followed_assoc (element k).0 more.0 (element k).1 more.1 rest) t in
         (
-          m k (omega arith) (omega arith),
-          λ y a.
+          (m k (omega arith) (omega arith), λ made y a e.
               takes_one y (element k).1 (then_items more.0 more.1 rest) old
               (subst (λ (ys : List Y). TakesAll takes gives (then_items ys (element k).1 (then_items more.0 more.1 rest)).0 old)
-               (one_isnt_none (one_made k (Ok y)) (element k) y (agrees k (omega arith) (omega arith) (Ok y) a) refl) t'),
+               (one_isnt_none (one_made k made) (element k) y (agrees k (omega arith) (omega arith) made a) e) t')),
           λ mid given.
               takes_elements may makes element rest (k + 1) n mid (λ j least most. m j (omega arith) (omega arith)) (λ j least most. agrees j (omega arith) (omega arith))
               (takes_then (element k).0 (element k).1 (then_items more.0 more.1 rest) old mid t'

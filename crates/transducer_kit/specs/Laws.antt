@@ -1,10 +1,9 @@
 -- Laws of the wrappers over lists of items: each is its rule on whole lists, for any closure and any inner function.
 -- Source: this project, after Transducers.jl.
-use Rattle.std.specs.Prelude.{◌≡◌, ◌≢◌, ◌≤◌, ◌+◌, ◌^◌, ℕ, List, ◌++◌, length, Result, Err}
+use Rattle.std.specs.Prelude.{◌≡◌, ◌≢◌, ◌≤◌, ◌+◌, ◌^◌, List, ◌++◌, length, Err}
 use Rattle.std.specs.List.{AllByRecursion}
-use Rattle.transducer_kit.specs.declared.answers.PassStop.{PassStop}
 use Rattle.transducer_kit.specs.Answers.{Answer}
-use Rattle.transducer_kit.specs.Lists.{Agrees, AgreesButForMemory, ElementsAgree, ElementsAgreeButForMemory, MayMake, TakesAll, list_output, spread_of}
+use Rattle.transducer_kit.specs.Lists.{TakesAll, list_output}
 use Rattle.transducer_kit.specs.Passing.{Feeds, FeedsAll, Passed}
 
 -- a relation of the state before items, the items, the answer and the state after them
@@ -31,3 +30,23 @@ abbrev pub TakenByRule : {S X Y : Type 0} → (may agrees : X → Type 0) → (X
 TakenByRule {S} {X} may agrees stage outer_takes outer takes inner = (xs : List X) (after : Answer) (state : S) →
     AllByRecursion may xs → AllByRecursion agrees xs → TakesAll takes inner (list_output stage xs after).0 state →
     TakesAll outer_takes outer xs state
+
+-- ---- a reducer at the end of a pipeline
+
+-- unless memory ran out, all the items were taken, and the state stands for what it stood for followed by them
+abbrev pub StandsOrFails : {S I : Type 0} → (S → List I → Type 0) → Gives S I → Type 0
+StandsOrFails {S} {I} stands gives = (before items : List I) (after answer : Answer) (old new : S) →
+    stands old before → FeedsAll gives items after old answer new → answer ≢ Err (record {}) →
+    (answer ≡ after) × stands new (before ++ items)
+
+-- the same of a reducer that takes no memory, always
+abbrev pub StandsIfFree : {S I : Type 0} → Type 0 → (S → List I → Type 0) → Gives S I → Type 0
+StandsIfFree {S} {I} free stands gives = (before items : List I) (after answer : Answer) (old new : S) →
+    free → stands old before → FeedsAll gives items after old answer new →
+    (answer ≡ after) × stands new (before ++ items)
+
+-- items that the reducer accepts may be taken where there are at most 2^62 together with those before
+abbrev pub TakesAccepted : {S I : Type 0} → (S → List I → Type 0) → (I → Type 0) → (S → I → Type 0) → Gives S I → Type 0
+TakesAccepted {S} {I} stands accepts takes gives = (before items : List I) (state : S) →
+    stands state before → length before + length items ≤ 2 ^ 62 → AllByRecursion accepts items →
+    TakesAll takes gives items state

@@ -11,18 +11,28 @@ abbrev pub Passed : Type 0 → Type 0
 Passed Y = List Y × Answer
 
 -- the inner function takes the items in order, up to the first that it answers otherwise than by going on, which is then the
--- answer; where it goes on after all of them, the answer is the one that came after the last
+-- answer: what comes after it isn't taken; where it goes on after all of them, the answer is the one that came after the last
 abbrev pub FeedsAll : {S Y : Type 0} → (S → Y → Answer → S → Type 0) → List Y → Answer → S → Answer → S → Type 0
 FeedsAll gives [] after old answer new = (answer ≡ after) × (new ≡ old)
-FeedsAll {S} gives (y ∷ ys) after old answer new = (first : Answer) × (mid : S) × gives old y first mid × if_going first (FeedsAll gives ys after mid answer new) ((answer ≡ first) × (new ≡ mid))
+FeedsAll {S} gives (y ∷ ys) after old answer new = (first : Answer) × (mid : S) × gives old y first mid
+    × if_going first (FeedsAll gives ys after mid answer new) ((answer ≡ first) × (new ≡ mid))
 
 -- the same of what a stage let through
 abbrev pub Feeds : {S Y : Type 0} → (S → Y → Answer → S → Type 0) → Passed Y → S → Answer → S → Type 0
 Feeds gives passed old answer new = FeedsAll gives passed.0 passed.1 old answer new
 
 -- the closure answers at the item, and what the stage lets through by that answer is given to the inner function
-abbrev pub StageGives : {S X Y Made : Type 0} → (X → Made → Type 0) → (X → Made → Passed Y) → (S → Y → Answer → S → Type 0) → S → X → Answer → S → Type 0
-StageGives {Made = Made} answers through gives old x answer new = (made : Made) × answers x made × Feeds gives (through x made) old answer new
+abbrev pub StageGives : {S X Y Made : Type 0} → (X → Made → Type 0) → (X → Made → Passed Y) →
+    (S → Y → Answer → S → Type 0) → S → X → Answer → S → Type 0
+StageGives {Made = Made} answers through gives old x answer new =
+    (made : Made) × answers x made × Feeds gives (through x made) old answer new
+
+-- the closure may be called on the item, and the item that the stage lets through by its answer may be taken by the inner
+-- function; a stage but `Catting` lets at most one through
+abbrev pub StageTakes : {S X Y Made : Type 0} → (X → Type 0) → (X → Made → Type 0) → (X → Made → Passed Y) →
+    (S → Y → Type 0) → S → X → Type 0
+StageTakes {Y = Y} {Made = Made} may answers through takes state x =
+    may x × ((made : Made) (y : Y) → answers x made → (through x made).0 ≡ y ∷ [] → takes state y)
 
 -- the item that the closure made; nothing where it stopped
 abbrev pub one_made : {X Y : Type 0} → X → Result Y PassStop → Passed Y

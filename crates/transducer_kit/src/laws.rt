@@ -4,16 +4,16 @@
 //! stage makes of the whole list (`rule`); the same unless memory ran out, where the closure may run out of it (`memory`); and
 //! the wrapper may take the list where its inner function may take what the stage makes of it (`takes`).
 
-ghost use Rattle.std.specs.Prelude.{◌≡◌, ◌≤◌, ◌+◌, ◌++◌, ◌^◌, List, ℕ, length};
-ghost use Rattle.std.specs.List.{AllByRecursion};
+ghost use Rattle.std.specs.Prelude.{List, ℕ};
 ghost use Rattle.loop_data.specs.declared.value.Value.{Value};
 ghost use Rattle.transducer_kit.specs.declared.catting.Catting.{Catting};
+ghost use Rattle.transducer_kit.specs.declared.closed.Closed.{Closed};
 ghost use Rattle.transducer_kit.specs.declared.filtering.Filtering.{Filtering};
 ghost use Rattle.transducer_kit.specs.declared.keeping_something.KeepingSomething.{KeepingSomething};
 ghost use Rattle.transducer_kit.specs.declared.map_splatting.MapSplatting.{MapSplatting};
 ghost use Rattle.transducer_kit.specs.declared.mapping.Mapping.{Mapping};
 ghost use Rattle.transducer_kit.specs.declared.reducing_if.ReducingIf.{ReducingIf};
-ghost use Rattle.transducer_kit.specs.Laws.{Follows, FollowsOrFails, TakenByRule};
+ghost use Rattle.transducer_kit.specs.Laws.{Follows, FollowsOrFails, StandsIfFree, StandsOrFails, TakenByRule, TakesAccepted};
 ghost use Rattle.transducer_kit.specs.Lists.{Agrees, AgreesButForMemory, ElementsAgree, ElementsAgreeButForMemory, MayMake, spread_of};
 ghost use Rattle.transducer_kit.specs.Passing.{AtShown, MayShow, Passed, one_ended, one_kept, one_made, one_tested};
 
@@ -22,6 +22,7 @@ use crate::{
     ReducingIf, Taking,
 };
 use loop_data::Value;
+use reducer_laws::Reducer;
 
 /// A mapping.
 pub fn mapping_follows_its_rule<A: Drop, R: Reducing, F: Fn(A) -> Result<R::Item, PassStop>>()
@@ -114,6 +115,16 @@ pub fn catting_follows_its_rule<A: Drop, R: Reducing, F: Fn(&A, u64) -> Result<R
         (ElementsAgreeButForMemory (λ x k. AtShown (λ shown. F.post w.make shown k) x) element)
         (spread_of element) (⟦<Catting<A, F, R> as Reducing>⟧.takes w) (⟦<Catting<A, F, R> as Reducing>⟧.gives w)
         (R.takes w.inner) (R.gives w.inner) }
+{}
+
+/// A closed reducer at the end of a pipeline stands for what it was given, in order.
+pub fn closing_stands_for_the_list<R: Reducer>()
+    ensures stands { (w : Closed R) →
+        StandsOrFails (R.stands w.reducer) (⟦<Closed<R> as Reducing>⟧.gives w) }
+    ensures free { (w : Closed R) →
+        StandsIfFree (R.is_free w.reducer) (R.stands w.reducer) (⟦<Closed<R> as Reducing>⟧.gives w) }
+    ensures takes { (w : Closed R) → TakesAccepted (R.stands w.reducer) (R.accepts w.reducer)
+        (⟦<Closed<R> as Reducing>⟧.takes w) (⟦<Closed<R> as Reducing>⟧.gives w) }
 {}
 
 fn is_shared<T: Send + Sync>() {}

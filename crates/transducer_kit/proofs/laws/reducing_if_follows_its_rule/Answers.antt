@@ -1,5 +1,5 @@
 use Rattle.transducer_kit.specs.Passing.{AtShown, MayShow, one_ended}
-use Rattle.transducer_kit.proofs.Lists.{fused, fused_or_failed, takes_ended}
+use Rattle.transducer_kit.proofs.Lists.{fused, fused_or_failed, takes_fused}
 use Rattle.transducer_kit.proofs.laws.reducing_if_follows_its_rule.Goals as goal
 
 pub returns-clause-rule : goal.returns-clause-rule
@@ -10,4 +10,4 @@ returns-clause-memory g c = λ w stage. fused_or_failed (g.R.Reducing.gives w.in
 
 pub returns-clause-takes : goal.returns-clause-takes
 returns-clause-takes g c = λ w stage.
-    takes_ended (g.R.Reducing.gives w.inner) (g.R.Reducing.takes w.inner) (MayShow (goal.P-pre g w.test)) (AtShown (goal.P-post g w.test)) w.line stage
+    takes_fused (g.R.Reducing.gives w.inner) (g.R.Reducing.takes w.inner) (AtShown (goal.P-post g w.test)) (one_ended w.line) stage (MayShow (goal.P-pre g w.test))

@@ -4,17 +4,11 @@ use Rattle.transducer_kit.specs.Answers.{is_going}
 use Rattle.transducer_kit.proofs.Feeding.{went_on, ended_elements}
 use Rattle.transducer_kit.proofs.catting.CattingReducing.step.Goals as goal
 
-pub step_element-answer-requires-clause-may : goal.step_element-answer-requires-clause-may
-step_element-answer-requires-clause-may g c =
+pub step_element-answer-requires : goal.step_element-answer-requires
+step_element-answer-requires g c =
     let n : ℕ = c.args.item.1 - (c.loop-before.before + 1) in
     let e : c.loop-before.before + suc n ≡ c.args.item.1 = omega arith in
     (c.loop-before.invariant.left (suc n) e).0
-
-pub step_element-answer-requires-clause-takes : goal.step_element-answer-requires-clause-takes
-step_element-answer-requires-clause-takes g c =
-    let n : ℕ = c.args.item.1 - (c.loop-before.before + 1) in
-    let e : c.loop-before.before + suc n ≡ c.args.item.1 = omega arith in
-    (c.loop-before.invariant.left (suc n) e).1
 
 pub returns : goal.returns
 returns g c =
@@ -33,6 +27,6 @@ loop-before-preserved g c =
     let t : is_going c.step_element-answer.result ≡ true = cc in
     let given = rw (went_on _ t) at c.step_element-answer.ensures in
     record {
-      left = λ n e. (c.loop-before.invariant.left (suc n) (omega arith)).2 c.step_element-answer.new.state given;
+      left = λ n e. (c.loop-before.invariant.left (suc n) (omega arith)).1 c.step_element-answer.new.state given;
       told = λ n answer new e h. c.loop-before.invariant.told (suc n) answer new (omega arith) (Ok Going, c.step_element-answer.new.state, given, h);
     }

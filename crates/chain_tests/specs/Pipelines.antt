@@ -1,0 +1,28 @@
+-- What the stages of the tests' pipelines let through, said apart from all code.
+-- Source: this project, after Transducers.jl.
+use Rattle.std.specs.Prelude.{ℕ, suc, zero, ◌-◌, List, [], ◌∷◌, ℤ, pos, Ok}
+use Rattle.std.specs.Int.{◌*ℤ◌, int_wrap, w64}
+use Rattle.std.specs.Ordering.{int_lt}
+use Rattle.chain_stages.specs.declared.step_end.StepEnd.TheVariants.{Going}
+use Rattle.transducer_kit.specs.Lists.{list_output}
+use Rattle.transducer_kit.specs.Passing.{Passed, one_ended, one_made, one_tested}
+
+-- the numbers over 2
+abbrev pub over_two : ℤ → Passed ℤ
+over_two x = one_tested x (Ok (int_lt (pos 2) x))
+
+-- the square, wrapped in 64 bits
+abbrev pub squared : ℤ → Passed ℤ
+squared x = one_made x (Ok (int_wrap w64 (x *ℤ x)))
+
+-- the number; after the first over 20 the fold ends on line 4
+abbrev pub until_over_twenty : ℤ → Passed ℤ
+until_over_twenty x = one_ended 4 x (Ok (int_lt (pos 20) x))
+
+-- a list through a stage, with what comes after it
+abbrev pub staged : {X Y : Type 0} → (X → Passed Y) → Passed X → Passed Y
+staged stage list = list_output stage list.0 list.1
+
+-- the squares of the numbers over 2, up to and with the first over 20: stage by stage, each on the whole list
+abbrev pub squares_of : List ℤ → Passed ℤ
+squares_of numbers = staged until_over_twenty (staged squared (staged over_two (numbers, Ok Going)))

@@ -1,0 +1,7 @@
+//! Tests of wrappers and chains, through their public calls alone, and pipelines that a user would build by hand.
+#![tactic(auto)]
+
+#[cfg(test)]
+mod own;
+#[cfg(test)]
+mod pipelines;
