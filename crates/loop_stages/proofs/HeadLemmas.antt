@@ -178,8 +178,7 @@ module _ (program : ProgramTree) (facts : IsApart program) where
       RunBehind (with_items program.head.line (items_or_fault r) (λ items. for_each program h.name items (inner_runs program hs (width * length items)))) (Cat program.head.line h.name ∷ rest_of hs)
       (followed_by (with_range program.head.line r (at other width range [])) (nothing Going)) names before
   ranged h hs width range names other before agree kept alike (Err stop) =
-      let none = chain_nothing (rest_of hs) (Fault program.head.line (fault_number stop)) in
-      (
+      let none = chain_nothing (rest_of hs) (Fault program.head.line (fault_number stop)) in (
         ap (λ (o : Output). o.end) none,
         ([], sym (append-nil before) ∙ sym (append-nil (before ++ [])) ∙ ap (λ (o : Output). (before ++ emitted_by o.elements) ++ []) (sym none)),
       )

@@ -1,5 +1,5 @@
 -- Loops worked by hand, lowered by computation.
-use Rattle.std.proofs.Common.{◌≡◌, refl, rules}
+use Rattle.std.proofs.Common.{rules}
 use Rattle.loop_data.specs.declared.statement.Statement.{the_lemmas as statement_lemmas}
 use Rattle.loop_stages.specs.Worked.{BreaksFirst, EndsLater, HeadStages, IfStages, LineStages}
 

@@ -1,13 +1,11 @@
 -- Two neighbouring stretches of a legal loop, merged; and that their states may be merged at all.
-use Rattle.std.proofs.Common.{◌≡◌, ◌≢◌, ◌≤◌, ◌<◌, ◌-◌, ◌+◌, ◌*◌, ◌^◌, ◌⊎◌, inl, inr, ℕ, zero, suc, List, [], ◌∷◌, ◌++◌, length, take, drop, refl, sym, ap, ◌∙◌, subst, min, length-take, length-drop, length-append, arith}
+use Rattle.std.proofs.Common.{◌≡◌, ◌≤◌, ◌-◌, ◌+◌, ◌^◌, ◌⊎◌, inl, inr, ℕ, List, [], ◌∷◌, ◌++◌, length, take, drop, refl, sym, ap, ◌∙◌, subst, length-take, length-drop, length-append, arith}
 use Rattle.std.proofs.lemmas.List.{drop-drop}
 use Rattle.loop_data.specs.declared.value.Value.{Value}
 use Rattle.loop_grammar.specs.declared.tree.ProgramTree.{ProgramTree}
 use Rattle.legality_rules.specs.Offences.{IsLegal}
-use Rattle.loop_meaning.specs.declared.runs.PlainStop.{PlainStop}
 use Rattle.loop_meaning.specs.declared.runs.PlainStop.TheVariants as stop
 use Rattle.loop_meaning.specs.declared.runs.Run.{Run}
-use Rattle.loop_meaning.specs.declared.steps.Pair.{Pair}
 use Rattle.number_ranges.specs.Ranges.{most_items}
 use Rattle.loop_meaning.specs.Runs.{after_stop, followed_by}
 use Rattle.loop_meaning.specs.Stores.{start_store}
@@ -15,17 +13,14 @@ use Rattle.fitting_inputs.proofs.LegalRuns.{legal_parts_emit_few}
 use Rattle.loop_meaning.proofs.StopLemmas.{skips_at_most}
 use Rattle.carries_nothing.specs.Parts.{GivesSame, from_start}
 use Rattle.carries_nothing.proofs.Cuts.{legal_carries_nothing}
-use Rattle.reducer_laws.specs.Standing.{MayMerge}
 use Rattle.reducer_tower.specs.declared.named.Named.{Named}
 use Rattle.reducer_tower.specs.declared.row.Emitted.{Emitted}
 use Rattle.reducer_tower.specs.Rows.{RowStands}
-use Rattle.fold_seq.specs.declared.answers.Reduced.{Reduced}
 use Rattle.fold_seq.specs.declared.answers.Reduced.TheVariants.{Going, Stopped, Faulted}
-use Rattle.fold_seq.specs.Answers.{MergesInto}
 use Rattle.loop_standing.specs.declared.state.LoopState.{LoopState}
 use Rattle.loop_standing.specs.Laws.{MergesStand, PartsMayMerge}
 use Rattle.program_rows.specs.Pairs.{numbered}
-use Rattle.loop_standing.specs.Standing.{Answers, HoldsRun, IsFoldable, Merges, StateStands, StretchStands, stretch_of, stretch_run}
+use Rattle.loop_standing.specs.Standing.{HoldsRun, IsFoldable, Merges, StretchStands, stretch_of, stretch_run}
 use Rattle.program_rows.proofs.PairLemmas.{numbered-append, numbered_few}
 use Rattle.loop_standing.proofs.StandLemmas.{stretch_more}
 
