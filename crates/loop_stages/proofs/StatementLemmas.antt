@@ -51,7 +51,7 @@ Meets own run e o = Comes own run.flow run e o
 abbrev one : Output → Output
 one o = followed_by o (nothing Going)
 
-by_layer : (P : Statement → Type 0) → ((w : Statement-F Statement Branch) → P (roll-Statement w)) → (x : Statement) → P x
+pub by_layer : (P : Statement → Type 0) → ((w : Statement-F Statement Branch) → P (roll-Statement w)) → (x : Statement) → P x
 by_layer P h = ind-Statement P (λ b. Unit {0}) (λ x y is. h x) (λ x y is. tt)
 
 abbrev RunOf : Statement-F Statement Branch → Action

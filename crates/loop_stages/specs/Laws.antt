@@ -1,6 +1,7 @@
 -- What holds of lowered loops. Each is the contract of a function of laws.
 -- Source: this project.
 use Rattle.std.specs.Prelude.{◌≡◌, ◌≤◌, ◌⊎◌, ℕ, ◌+◌, false, true, List, ◌∷◌, ◌++◌, flat_map, length, map}
+use Rattle.std.specs.List.{list_any}
 use Rattle.loop_data.specs.declared.value.Value.{Value}
 use Rattle.loop_data.specs.declared.statement.Statement.{Statement}
 use Rattle.loop_grammar.specs.WellFormed.{is_well_formed}
@@ -10,9 +11,10 @@ use Rattle.loop_meaning.specs.Runs.{loop_run}
 use Rattle.loop_meaning.specs.Steps.{body_step}
 use Rattle.loop_meaning.specs.Stores.{start_store}
 use Rattle.loop_stages.specs.Agreement.{IsAsRun, IsAsStep}
-use Rattle.loop_stages.specs.Holding.{any_of, holds, is_reduce}
+use Rattle.loop_stages.specs.Breaks.{ends_on, stage_line}
+use Rattle.loop_stages.specs.Holding.{any_of, hold_break, holds, is_reduce}
 use Rattle.loop_stages.specs.Items.{item_output, items_taken, then_taken}
-use Rattle.loop_stages.specs.Lowering.{body_stages, line_of, most_before_split, rest_stages, statement_stages}
+use Rattle.loop_stages.specs.Lowering.{body_stages, line_of, lowered, most_before_split, rest_stages, statement_stages}
 
 -- Lowering is right, for every legal program that a text spells: of every stretch of items, each taken through the chain alone up
 -- to the item where the run ends, the emitted pairs in order, those of items that fault in a program with `on fault skip` left
@@ -53,3 +55,10 @@ abbrev pub SplitsNowhere : Type 0
 SplitsNowhere = (body : List Statement) →
     any_of (map (holds is_reduce) body) ≡ false → length body ≤ most_before_split →
     body_stages most_before_split body ≡ flat_map statement_stages body
+
+-- ---- breaks
+
+-- where a statement of the body is or holds a `break` on this line, the line of its stage is that of a `ReduceIf` of the program
+abbrev pub BreaksHaveStages : Type 0
+BreaksHaveStages = (program : ProgramTree) (line : ℕ) → hold_break line program.body ≡ true →
+    list_any (ends_on (stage_line program line)) (lowered program) ≡ true
