@@ -12,7 +12,8 @@ use Rattle.loop_stages.proofs.HoldLemmas.{or_false}
 abbrev first_stages : Bool → ℕ → Statement → List Statement → List Stage
 first_stages b room x xs = if b then rest_stages (line_of x) (x ∷ xs) else statement_stages x ++ body_stages room xs
 
-splits_in : (room : ℕ) (before rest : List Statement) (x : Statement) → any_of (map (holds is_reduce) before) ≡ false → length before ≤ room →
+splits_in : (room : ℕ) (before rest : List Statement) (x : Statement) → any_of (map (holds is_reduce) before) ≡ false →
+    length before ≤ room →
     (holds is_reduce x ≡ true) ⊎ (length before ≡ room) →
     body_stages room (before ++ x ∷ rest) ≡ flat_map statement_stages before ++ rest_stages (line_of x) (x ∷ rest)
 splits_in zero [] rest x none few this = refl

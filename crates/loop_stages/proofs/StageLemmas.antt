@@ -81,7 +81,8 @@ module _ (line : ℕ) where
   neither true b h k = absurd (cc (h))
   neither false b h k = k
 
-  block_none : (block : List Such) → any_of (map (holds is_break) (map bare block)) ≡ false → any_of (map (holds (is_break_on line)) (map bare block)) ≡ false
+  block_none : (block : List Such) → any_of (map (holds is_break) (map bare block)) ≡ false →
+      any_of (map (holds (is_break_on line)) (map bare block)) ≡ false
   block_none [] h = refl
   block_none (x ∷ xs) h =
       let parts = or_false (holds is_break x.0) (any_of (map (holds is_break) (map bare xs))) h in
@@ -101,18 +102,23 @@ module _ (line : ℕ) where
   bared_branch y = folds.map-Branch Such SuchBranch Statement Branch bare bare_branch y
 
   abbrev LayerNone : Statement-F Statement Branch → Type 0
-  LayerNone w = holding is_break (map-Statement Statement Branch Bool Bool (holds is_break) (holds_in_branch is_break) w) ≡ false →
-      holding (is_break_on line) (map-Statement Statement Branch Bool Bool (holds (is_break_on line)) (holds_in_branch (is_break_on line)) w) ≡ false
+  LayerNone w = holding is_break (map-Statement Statement Branch Bool Bool (holds is_break) (holds_in_branch is_break) w)
+      ≡ false →
+      holding (is_break_on line) (map-Statement Statement Branch Bool Bool (holds (is_break_on line))
+      (holds_in_branch (is_break_on line)) w) ≡ false
 
   abbrev BranchLayerNone : Branch-F Statement Branch → Type 0
-  BranchLayerNone w = in_branch (folds.map-Branch Statement Branch Bool Bool (holds is_break) (holds_in_branch is_break) w) ≡ false →
-      in_branch (folds.map-Branch Statement Branch Bool Bool (holds (is_break_on line)) (holds_in_branch (is_break_on line)) w) ≡ false
+  BranchLayerNone w = in_branch (folds.map-Branch Statement Branch Bool Bool (holds is_break) (holds_in_branch is_break) w)
+      ≡ false →
+      in_branch (folds.map-Branch Statement Branch Bool Bool (holds (is_break_on line)) (holds_in_branch (is_break_on line)) w)
+      ≡ false
 
   layer_none : (y : Statement-F Such SuchBranch) → LayerNone (bared y)
   layer_none (s.Let l pattern x) h = refl
   layer_none (s.Set l name x) h = refl
   layer_none (s.If l branches else_line other end_line) h =
-      let parts = or_false (any_of (map (holds_in_branch is_break) (map bare_branch branches))) (any_of (map (holds is_break) (map bare other))) h in
+      let parts = or_false (any_of (map (holds_in_branch is_break) (map bare_branch branches)))
+      (any_of (map (holds is_break) (map bare other))) h in
       neither _ _ (branches_none branches parts.0) (block_none other parts.1)
   layer_none (s.Keep l name x) h = refl
   layer_none (s.Reduce l name tower start) h = refl
@@ -145,7 +151,8 @@ module _ (line : ℕ) where
       (λ w h. holds_rolled (is_break_on line) w ∙ at_layer w (subst (λ w. is_continue w ≡ true) (out-roll-Statement w) h))
     where
       at_layer : (w : Statement-F Statement Branch) → is_continue w ≡ true →
-          holding (is_break_on line) (map-Statement Statement Branch Bool Bool (holds (is_break_on line)) (holds_in_branch (is_break_on line)) w) ≡ false
+          holding (is_break_on line) (map-Statement Statement Branch Bool Bool (holds (is_break_on line))
+          (holds_in_branch (is_break_on line)) w) ≡ false
       at_layer (s.Continue l) h = refl
       at_layer (s.Let l ns x) h = absurd (cc (h))
       at_layer (s.Set l n x) h = absurd (cc (h))
@@ -179,9 +186,11 @@ module _ (line : ℕ) where
   if_told l (b ∷ []) zero (y ∷ ys) end_line = tt
   if_told l (b ∷ []) zero [] end_line =
       block_told (roll-Statement (s.If l (b ∷ []) zero [] end_line)) b.test b.block
-      (λ h. holds_rolled (is_break_on line) (s.If l (b ∷ []) zero [] end_line) ∙ neither _ _ (neither _ _ (in_block b ∙ h) refl) refl)
+      (λ h. holds_rolled (is_break_on line) (s.If l (b ∷ []) zero [] end_line)
+      ∙ neither _ _ (neither _ _ (in_block b ∙ h) refl) refl)
 
-  form_ends : (l : ℕ) (form : IfForm) (x : Statement) → Told form x → holds (is_break_on line) x ≡ true → Ends l (if_stages l form x)
+  form_ends : (l : ℕ) (form : IfForm) (x : Statement) → Told form x → holds (is_break_on line) x ≡ true →
+      Ends l (if_stages l form x)
   form_ends l (continues c) x told h = absurd (cc (told, h))
   form_ends l (breaks c) x told h = begins l (test.If c) (Filter l (test.IfNot c) ∷ [])
   form_ends l any_other x told h =
@@ -199,16 +208,19 @@ module _ (line : ℕ) where
   layer_ends (s.Continue l) h = absurd (cc (h, holds_rolled (is_break_on line) (s.Continue l)))
   layer_ends (s.Break l) h = begins l test.Always (Filter l test.Never ∷ [])
   layer_ends (s.If l bs el other end_line) h =
-      form_ends (if_line l bs) (if_form bs el other) (roll-Statement (s.If l bs el other end_line)) (if_told l bs el other end_line) h
+      form_ends (if_line l bs) (if_form bs el other) (roll-Statement (s.If l bs el other end_line))
+      (if_told l bs el other end_line) h
 
   statement_ends : (x : Statement) → holds (is_break_on line) x ≡ true → Ends (line_of x) (statement_stages x)
   statement_ends = by_layer (λ x. holds (is_break_on line) x ≡ true → Ends (line_of x) (statement_stages x))
-      (λ w h. subst (λ layer. Ends (line_at layer) (layer_stages layer (roll-Statement w))) (sym (out-roll-Statement w)) (layer_ends w h))
+      (λ w h. subst (λ layer. Ends (line_at layer) (layer_stages layer (roll-Statement w))) (sym (out-roll-Statement w))
+      (layer_ends w h))
 
   -- ---- a body
 
   -- told whether the first statement is the split statement, and whether it holds the `break`
-  first_ends : (room : ℕ) (x : Statement) (xs : List Statement) (b c : Bool) → holds (is_break_on line) x ≡ c → hold_break line (x ∷ xs) ≡ true →
+  first_ends : (room : ℕ) (x : Statement) (xs : List Statement) (b c : Bool) → holds (is_break_on line) x ≡ c →
+      hold_break line (x ∷ xs) ≡ true →
       (hold_break line xs ≡ true → Ends (stage_line_in room xs line) (body_stages room xs)) →
       Ends (if b then line_of x else (if c then line_of x else stage_line_in room xs line))
       (if b then rest_stages (line_of x) (x ∷ xs) else statement_stages x ++ body_stages room xs)
@@ -218,10 +230,12 @@ module _ (line : ℕ) where
       let there : hold_break line xs ≡ true = sym (ap (λ c. c || hold_break line xs) is) ∙ h in
       behind (stage_line_in room xs line) (statement_stages x) (body_stages room xs) (later there)
 
-  body_ends : (room : ℕ) (body : List Statement) → hold_break line body ≡ true → Ends (stage_line_in room body line) (body_stages room body)
+  body_ends : (room : ℕ) (body : List Statement) → hold_break line body ≡ true →
+      Ends (stage_line_in room body line) (body_stages room body)
   body_ends room [] h = absurd (cc (h))
   body_ends zero (x ∷ xs) h = rest_ends (line_of x) (x ∷ xs)
-  body_ends (suc room) (x ∷ xs) h = first_ends room x xs (holds is_reduce x) (holds (is_break_on line) x) refl h (body_ends room xs)
+  body_ends (suc room) (x ∷ xs) h =
+      first_ends room x xs (holds is_reduce x) (holds (is_break_on line) x) refl h (body_ends room xs)
 
 pub breaks_have_stages : BreaksHaveStages
 breaks_have_stages program line h =

@@ -16,4 +16,10 @@ pub line_stages : LineStages
 line_stages = (search (rules, statement_lemmas), search (rules, statement_lemmas))
 
 pub if_stages : IfStages
-if_stages = (search (rules, statement_lemmas), search (rules, statement_lemmas), search (rules, statement_lemmas), search (rules, statement_lemmas))
+if_stages = (
+  search (rules, statement_lemmas),
+  search (rules, statement_lemmas),
+  search (rules, statement_lemmas),
+  search
+      (rules, statement_lemmas),
+)
