@@ -2,6 +2,10 @@
 #![tactic(auto)]
 
 #[cfg(test)]
+mod chains;
+#[cfg(test)]
 mod own;
 #[cfg(test)]
 mod pipelines;
+#[cfg(test)]
+mod stages;

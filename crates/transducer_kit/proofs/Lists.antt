@@ -181,14 +181,17 @@ module _ {S Y : Type 0} (gives : S → Y → Answer → S → Type 0) where
           TakesAll takes gives (list_output stage xs after).0 old → TakesAll (StageTakes may answers through takes) (StageGives answers through gives) xs old
       takes_fused [] after old m agrees t = tt
       takes_fused (x ∷ xs) after old m agrees t = (
-        (m.0, λ made y a e.
-            takes_one y (stage x).1 (list_output stage xs after) old
-            (subst (λ (ys : List Y). TakesAll takes gives (then_items ys (stage x).1 (list_output stage xs after)).0 old)
-             (one_isnt_none (through x made) (stage x) y (agrees.0 made a) e) t)),
+        (
+          m.0,
+          λ made y a e.
+              takes_one y (stage x).1 (list_output stage xs after) old
+              (subst (λ (ys : List Y). TakesAll takes gives (then_items ys (stage x).1 (list_output stage xs after)).0 old)
+              (one_isnt_none (through x made) (stage x) y (agrees.0 made a) e) t),
+        ),
         λ mid given.
             takes_fused xs after mid m.1 agrees.1
             (takes_then (stage x).0 (stage x).1 (list_output stage xs after) old mid t
-             (subst (λ (p : Passed Y). Feeds gives p old (Ok Going) mid) (went_by_stage (through x given.0) (stage x) old mid (agrees.0 given.0 given.1) given.2) given.2)),
+            (subst (λ (p : Passed Y). Feeds gives p old (Ok Going) mid) (went_by_stage (through x given.0) (stage x) old mid (agrees.0 given.0 given.1) given.2) given.2)),
       )
 
     -- elements may be made and taken where the inner function may take them with what follows
@@ -198,17 +201,19 @@ module _ {S Y : Type 0} (gives : S → Y → Answer → S → Type 0) where
     takes_elements may makes element rest k zero old m agrees t = tt
     takes_elements may makes element rest k (suc n) old m agrees t =
         let more = elements element (k + 1) n in
-        let t' = subst (λ (p : Passed Y). TakesAll takes gives p.0 old) (followed_assoc (element k).0 more.0 (element k).1 more.1 rest) t in
-        (
-          (m k (omega arith) (omega arith), λ made y a e.
-              takes_one y (element k).1 (then_items more.0 more.1 rest) old
-              (subst (λ (ys : List Y). TakesAll takes gives (then_items ys (element k).1 (then_items more.0 more.1 rest)).0 old)
-               (one_isnt_none (one_made k made) (element k) y (agrees k (omega arith) (omega arith) made a) e) t')),
+        let t' = subst (λ (p : Passed Y). TakesAll takes gives p.0 old) (followed_assoc (element k).0 more.0 (element k).1 more.1 rest) t in (
+          (
+            m k (omega arith) (omega arith),
+            λ made y a e.
+                takes_one y (element k).1 (then_items more.0 more.1 rest) old
+                (subst (λ (ys : List Y). TakesAll takes gives (then_items ys (element k).1 (then_items more.0 more.1 rest)).0 old)
+                (one_isnt_none (one_made k made) (element k) y (agrees k (omega arith) (omega arith) made a) e) t'),
+          ),
           λ mid given.
               takes_elements may makes element rest (k + 1) n mid (λ j least most. m j (omega arith) (omega arith)) (λ j least most. agrees j (omega arith) (omega arith))
               (takes_then (element k).0 (element k).1 (then_items more.0 more.1 rest) old mid t'
-               (subst (λ (p : Passed Y). Feeds gives p old (Ok Going) mid)
-                (went_by_stage (one_made k given.0) (element k) old mid (agrees k (omega arith) (omega arith) given.0 given.1) given.2) given.2)),
+              (subst (λ (p : Passed Y). Feeds gives p old (Ok Going) mid)
+              (went_by_stage (one_made k given.0) (element k) old mid (agrees k (omega arith) (omega arith) given.0 given.1) given.2) given.2)),
         )
 
     -- the elements after which the fold goes on
@@ -223,8 +228,7 @@ module _ {S Y : Type 0} (gives : S → Y → Answer → S → Type 0) where
     takes_fused_elements may makes element [] after old m agrees t = tt
     takes_fused_elements may makes element (x ∷ xs) after old m agrees t =
         let passed = elements (element x.0) 1 x.1 in
-        let rest = list_output (spread_of element) xs after in
-        (
+        let rest = list_output (spread_of element) xs after in (
           takes_elements (may x.0) (makes x.0) (element x.0) rest 1 x.1 old (λ j least most. m.0 j least (omega arith)) (λ j least most. agrees.0 j least (omega arith)) t,
           λ mid given.
               takes_fused_elements may makes element xs after mid m.1 agrees.1

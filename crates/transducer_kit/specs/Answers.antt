@@ -30,13 +30,6 @@ GoesOnWith free holds (Ok (end.Ended line)) = ⊥
 GoesOnWith free holds (Ok (end.Fault line kind)) = ⊥
 GoesOnWith free holds (Err e) = ¬ free
 
--- the second answer where the first is to go on, and else the first
-abbrev pub and_then : Answer → Answer → Answer
-and_then (Ok end.Going) after = after
-and_then (Ok (end.Ended line)) after = Ok (end.Ended line)
-and_then (Ok (end.Fault line kind)) after = Ok (end.Fault line kind)
-and_then (Err e) after = Err e
-
 -- whether the answer is to go on
 abbrev pub is_going : Answer → Bool
 is_going (Ok end.Going) = true

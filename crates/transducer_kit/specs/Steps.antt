@@ -36,6 +36,17 @@ MakesSome out (Ok (Some e)) = out ≡ alone e
 MakesSome out (Ok None) = out ≡ nothing Going
 MakesSome out (Err why) = Stops out why
 
+-- what was done to an element leaves what the stage lets through, unless memory ran out
+abbrev pub Leaves : {T : Type 0} → Output → Result T PassStop → Element → Type 0
+Leaves out (Ok done) e = out ≡ alone e
+Leaves out (Err why) e = Stops out why
+
+-- the same where the answer tells whether the stage lets the element through
+abbrev pub LeavesSome : Output → Result Bool PassStop → Element → Type 0
+LeavesSome out (Ok true) e = out ≡ alone e
+LeavesSome out (Ok false) e = out ≡ nothing Going
+LeavesSome out (Err why) e = Stops out why
+
 abbrev pub told_at : ℕ → Answer → Result Bool PassStop
 told_at line (Ok passes) = Ok passes
 told_at line (Err why) = Err (stopped_at line why)

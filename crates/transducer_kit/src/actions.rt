@@ -1,6 +1,6 @@
 //! What the stages' closures do with one element.
 
-ghost use Rattle.std.specs.Prelude.{◌≡◌, Err, false, true, IfOk, OnErr};
+ghost use Rattle.std.specs.Prelude.{◌≡◌, Err, false, true, IfOk, OnErr, OnOk};
 ghost use Rattle.std.specs.FinMap.{get};
 ghost use Rattle.loop_data.specs.ValueParts.{parts_of};
 ghost use Rattle.loop_values.specs.InnerItems.{inner_limit};
@@ -12,13 +12,13 @@ ghost use Rattle.chain_stages.specs.Elements.{item_name, run_of};
 ghost use Rattle.chain_stages.specs.Cats.{sets_range};
 ghost use Rattle.transducer_kit.specs.Enters.{Enters, EntersIfSome};
 ghost use Rattle.chain_stages.specs.Stages.{after_run, kept, mapped, or_nothing, passes, truth, with_value};
-ghost use Rattle.transducer_kit.specs.Steps.{stopped_at, Makes, MakesSome, Tells};
+ghost use Rattle.transducer_kit.specs.Steps.{stopped_at, Leaves, LeavesSome, Makes, MakesSome, Tells};
 
 use crate::PassStop;
 use chain_stages::{Doing, Element, Mark, Test};
-use loop_data::{Expr, Many, RangeExpr, Statement, TextValue, Value};
+use loop_data::{Boxed, Expr, Many, RangeExpr, Statement, TextValue, Value};
 use loop_meaning::{BodyRun, Flow, run_block, run_statement};
-use loop_values::{Env, EvalStop, InnerRange, eval, eval_range};
+use loop_values::{Env, EvalStop, eval, eval_range};
 use no_memory::NoMemory;
 use std::alloc::Global;
 
@@ -40,52 +40,53 @@ pub(crate) fn stopped_at(line: u32, stop: EvalStop) -> PassStop
 
 // ---- Map
 
-/// The element with the expression's value under the name.
+/// Binds the expression's value to the name.
 fn bind_value(
     alloc: Global,
     line: u32,
     name: &TextValue,
     expr: &Expr,
-    element: Element,
-) -> Result<Element, PassStop>
-    ensures makes { Makes (mapped line (Bind name.now expr.now) element) result }
+    element: &mut Element,
+) -> Result<(), PassStop>
+    ensures leaves { Leaves (mapped line (Bind name.now expr.now) element.old) result element.new }
+    ensures width { OnOk result (element.new.width ≡ element.old.width) }
+    ensures inner { OnOk result (element.new.inner ≡ element.old.inner) }
 {
     match eval(alloc, expr, &element.env) {
         Err(stop) => Err(stopped_at(line, stop)),
         Ok(value) => {
-            let mut element = element;
             element.env.bind(alloc, name.as_str(), value)?;
-            Ok(element)
+            Ok(())
         }
     }
 }
 
-/// The element with the inner range set.
+/// Sets the inner range.
 fn set_range(
     alloc: Global,
     line: u32,
     range: &RangeExpr,
-    element: Element,
-) -> Result<Element, PassStop>
-    requires enters { Enters false element }
-    ensures makes { (name : _) → Makes (mapped line (Inner name range.now) element) result }
-    ensures enters { IfOk result (Enters true) }
+    element: &mut Element,
+) -> Result<(), PassStop>
+    requires enters { Enters false element.old }
+    ensures leaves { (name : _) → Leaves (mapped line (Inner name range.now) element.old) result element.new }
+    ensures enters { OnOk result (Enters true element.new) }
 {
     match eval_range(alloc, range, &element.env, element.width) {
         Err(stop) => Err(stopped_at(line, stop)),
         Ok(inner) => {
-            let mut element = element;
             element.inner = inner;
-            Ok(element)
+            Ok(())
         }
     }
 }
 
-/// The element that a body run left, which has this width and this inner range; or its fault.
-fn after_run(run: BodyRun, width: u64, inner: InnerRange) -> Result<Element, PassStop>
-    ensures makes { (e : Element) → e.width ≡ width → e.inner ≡ inner → Makes (after_run run e) result }
-    ensures width { IfOk result (λ e. e.width ≡ width) }
-    ensures inner { IfOk result (λ e. e.inner ≡ inner) }
+/// Leaves the element where a body run left it; or its fault.
+fn after_run(run: BodyRun, element: &mut Element) -> Result<(), PassStop>
+    ensures leaves { (e : Element) → e.width ≡ element.old.width → e.inner ≡ element.old.inner →
+        Leaves (after_run run e) result element.new }
+    ensures width { OnOk result (element.new.width ≡ element.old.width) }
+    ensures inner { OnOk result (element.new.inner ≡ element.old.inner) }
 {
     let BodyRun {
         names,
@@ -98,80 +99,61 @@ fn after_run(run: BodyRun, width: u64, inner: InnerRange) -> Result<Element, Pas
         Flow::Broke { line: _ } => Mark::Broke,
         Flow::Faulted { line, kind } => return Err(PassStop::Fault { line, kind }),
     };
-    Ok(Element {
-        env: names,
-        width,
-        mark,
-        inner,
-        emitted,
-    })
+    element.env = names;
+    element.mark = mark;
+    element.emitted = emitted;
+    Ok(())
 }
 
-/// The element after a statement, whose pairs don't count.
+/// Runs a statement, whose pairs don't count.
 fn do_statement(
     alloc: Global,
     line: u32,
     statement: &Statement,
-    element: Element,
-) -> Result<Element, PassStop>
-    ensures makes { Makes (mapped line (Block statement.now) element) result }
-    ensures width { IfOk result (λ e. e.width ≡ element.width) }
-    ensures inner { IfOk result (λ e. e.inner ≡ element.inner) }
+    element: &mut Element,
+) -> Result<(), PassStop>
+    ensures leaves { Leaves (mapped line (Block statement.now) element.old) result element.new }
+    ensures width { OnOk result (element.new.width ≡ element.old.width) }
+    ensures inner { OnOk result (element.new.inner ≡ element.old.inner) }
 {
-    let Element {
-        env,
-        width,
-        mark: _,
-        inner,
-        emitted,
-    } = element;
+    let names = std::mem::replace(&mut element.env, Env::new(alloc));
     let mut run = BodyRun {
-        names: env,
+        names,
         emitted: Many::new(alloc),
         flow: Flow::Going,
     };
     run_statement(alloc, statement, &mut run)?;
-    run.emitted = emitted;
-    after_run(run, width, inner)
+    run.emitted = std::mem::replace(&mut element.emitted, Many::new(alloc));
+    after_run(run, element)
 }
 
-/// The element after statements, with what they emit behind its pairs.
+/// Runs statements, and puts what they emit behind the element's pairs.
 fn do_rest(
     alloc: Global,
     line: u32,
     statements: &[Statement],
-    element: Element,
-) -> Result<Element, PassStop>
-    ensures makes { Makes (mapped line (Rest statements.now) element) result }
-    ensures width { IfOk result (λ e. e.width ≡ element.width) }
-    ensures inner { IfOk result (λ e. e.inner ≡ element.inner) }
+    element: &mut Element,
+) -> Result<(), PassStop>
+    ensures leaves { Leaves (mapped line (Rest statements.now) element.old) result element.new }
+    ensures width { OnOk result (element.new.width ≡ element.old.width) }
+    ensures inner { OnOk result (element.new.inner ≡ element.old.inner) }
 {
-    let Element {
-        env,
-        width,
-        mark: _,
-        inner,
-        emitted,
-    } = element;
+    let names = std::mem::replace(&mut element.env, Env::new(alloc));
+    let emitted = std::mem::replace(&mut element.emitted, Many::new(alloc));
     let mut run = BodyRun {
-        names: env,
+        names,
         emitted,
         flow: Flow::Going,
     };
     run_block(alloc, statements, &mut run)?;
-    after_run(run, width, inner)
+    after_run(run, element)
 }
 
-/// What a `Map` makes of an element.
-pub(crate) fn map_element(
-    alloc: Global,
-    line: u32,
-    action: &Doing,
-    element: Element,
-) -> Result<Element, PassStop>
-    requires enters { Enters false element }
-    ensures makes { Makes (mapped line action.now element) result }
-    ensures enters { IfOk result (Enters (sets_range action.now)) }
+/// Does to an element what a `Map` does.
+fn do_map(alloc: Global, line: u32, action: &Doing, element: &mut Element) -> Result<(), PassStop>
+    requires enters { Enters false element.old }
+    ensures leaves { Leaves (mapped line action.now element.old) result element.new }
+    ensures enters { OnOk result (Enters (sets_range action.now) element.new) }
 {
     match action {
         Doing::Bind { name, expr } => bind_value(alloc, line, name, expr, element),
@@ -179,6 +161,22 @@ pub(crate) fn map_element(
         Doing::Block { statement } => do_statement(alloc, line, statement, element),
         Doing::Rest { statements } => do_rest(alloc, line, statements.as_slice(), element),
     }
+}
+
+/// What a `Map` makes of an element.
+pub(crate) fn map_element(
+    alloc: Global,
+    line: u32,
+    action: &Doing,
+    element: Boxed<Element>,
+) -> Result<Boxed<Element>, PassStop>
+    requires enters { Enters false element }
+    ensures makes { Makes (mapped line action.now element) result }
+    ensures enters { IfOk result (Enters (sets_range action.now)) }
+{
+    let mut element = element;
+    do_map(alloc, line, action, element.get_mut())?;
+    Ok(element)
 }
 
 // ---- MapSplat
@@ -203,24 +201,60 @@ pub(crate) fn item_parts(alloc: Global, env: &Env) -> Result<Many<Value>, NoMemo
     }
 }
 
+/// Binds each name to its part, up to the shorter end.
+fn bind_parts(
+    alloc: Global,
+    names: &[TextValue],
+    parts: &[Value],
+    env: &mut Env,
+) -> Result<(), NoMemory>
+    ensures { OnOk result (env.new ≡ with_parts env.old names.now parts.now) }
+{
+    for (name, part) in names.iter().zip(parts) {
+        env.bind(alloc, name.as_str(), part.copy(alloc)?)?;
+    }
+    Ok(())
+}
+
 /// The element with each name bound to its part, up to the shorter end.
 pub(crate) fn splat_parts(
     alloc: Global,
     names: &[TextValue],
     parts: &[Value],
-    element: Element,
-) -> Result<Element, PassStop>
+    element: Boxed<Element>,
+) -> Result<Boxed<Element>, PassStop>
     ensures splatted { IfOk result (λ e. e ≡ record element { env = with_parts element.env names.now parts.now }) }
     ensures memory { OnErr result (result ≡ Err PassStop.NoMemory) }
 {
     let mut element = element;
-    for (name, part) in names.iter().zip(parts) {
-        element.env.bind(alloc, name.as_str(), part.copy(alloc)?)?;
-    }
+    bind_parts(alloc, names, parts, &mut element.get_mut().env)?;
     Ok(element)
 }
 
 // ---- KeepSomething
+
+/// Binds the expression's value to the name, and answers whether it is something; where it isn't, nothing is bound.
+fn do_keep(
+    alloc: Global,
+    line: u32,
+    name: &TextValue,
+    expr: &Expr,
+    element: &mut Element,
+) -> Result<bool, PassStop>
+    ensures leaves { LeavesSome (with_value line (value_of expr.now (get element.old.env)) (kept name.now element.old))
+        result element.new }
+    ensures width { OnOk result (element.new.width ≡ element.old.width) }
+    ensures inner { OnOk result (element.new.inner ≡ element.old.inner) }
+{
+    match eval(alloc, expr, &element.env) {
+        Err(stop) => Err(stopped_at(line, stop)),
+        Ok(Value::Nothing) => Ok(false),
+        Ok(value) => {
+            element.env.bind(alloc, name.as_str(), value)?;
+            Ok(true)
+        }
+    }
+}
 
 /// The element with the expression's value under the name; none where it is nothing.
 pub(crate) fn keep_value(
@@ -228,21 +262,15 @@ pub(crate) fn keep_value(
     line: u32,
     name: &TextValue,
     expr: &Expr,
-    element: Element,
-) -> Result<Option<Element>, PassStop>
+    element: Boxed<Element>,
+) -> Result<Option<Boxed<Element>>, PassStop>
     requires enters { Enters false element }
     ensures enters { IfOk result EntersIfSome }
     ensures makes { MakesSome (with_value line (value_of expr.now (get element.env)) (kept name.now element)) result }
 {
-    match eval(alloc, expr, &element.env) {
-        Err(stop) => Err(stopped_at(line, stop)),
-        Ok(Value::Nothing) => Ok(None),
-        Ok(value) => {
-            let mut element = element;
-            element.env.bind(alloc, name.as_str(), value)?;
-            Ok(Some(element))
-        }
-    }
+    let mut element = element;
+    let some = do_keep(alloc, line, name, expr, element.get_mut())?;
+    if some { Ok(Some(element)) } else { Ok(None) }
 }
 
 // ---- Filter and ReduceIf

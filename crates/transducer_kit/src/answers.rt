@@ -1,7 +1,7 @@
 //! What a step answers, and how a stage's closure stops.
 
 ghost use Rattle.std.specs.Prelude.{◌≡◌};
-ghost use Rattle.transducer_kit.specs.Answers.{and_then, answer_of, is_going};
+ghost use Rattle.transducer_kit.specs.Answers.{answer_of, is_going};
 
 use chain_stages::StepEnd;
 use no_memory::NoMemory;
@@ -34,19 +34,6 @@ impl From<NoMemory> for PassStop {
 
     fn from(_error: NoMemory) -> PassStop {
         PassStop::NoMemory
-    }
-}
-
-/// The second answer where the first is to go on, and else the first.
-pub(crate) fn answer_then(
-    first: Result<StepEnd, NoMemory>,
-    after: Result<StepEnd, NoMemory>,
-) -> Result<StepEnd, NoMemory>
-    ensures { result ≡ and_then first after }
-{
-    match first {
-        Ok(StepEnd::Going) => after,
-        other => other,
     }
 }
 

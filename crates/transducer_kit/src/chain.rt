@@ -15,7 +15,7 @@ ghost use Rattle.transducer_kit.specs.Steps.{Emits, end_is_going, unless_ended};
 use crate::spread::{put_behind, spread_copy, spread_last};
 use crate::take::take_stage;
 use chain_stages::{Element, Mark, Stage, StepEnd, cats_follow};
-use loop_data::{Many, TextValue};
+use loop_data::{Boxed, Many, TextValue};
 use loop_meaning::Pair;
 use loop_values::{Env, InnerRange};
 use no_memory::NoMemory;
@@ -76,6 +76,7 @@ impl Chain {
             },
             emitted: Many::new(alloc),
         };
+        let element = Boxed::new(alloc, element)?;
         step_at(alloc, self.stages.as_slice(), 0, element, pairs)
     }
 
@@ -152,7 +153,7 @@ fn step_at(
     alloc: Global,
     stages: &[Stage],
     at: usize,
-    element: Element,
+    element: Boxed<Element>,
     pairs: &mut Many<Pair>,
 ) -> Result<StepEnd, NoMemory>
     requires within { at ≤ length stages.now }
@@ -160,11 +161,12 @@ fn step_at(
     ensures { IfOk result (λ end. Emits (chain_output (drop at stages.now) (alone element)) pairs.old end pairs.new) }
 {
     let Some(stage) = stages.get(at) else {
-        put_behind(alloc, pairs, element.emitted)?;
+        let Element { emitted, .. } = element.into_inner();
+        put_behind(alloc, pairs, emitted)?;
         return Ok(StepEnd::Going);
     };
     match stage.cat_name() {
-        Some(name) => spread_at(alloc, stages, at + 1, name, element, pairs),
+        Some(name) => spread_at(alloc, stages, at + 1, name, element.into_inner(), pairs),
         None => {
             let (taken, after) = take_stage(alloc, stage, element)?;
             match taken {

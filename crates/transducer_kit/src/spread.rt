@@ -6,7 +6,7 @@ ghost use Rattle.transducer_kit.specs.Enters.{Enters};
 ghost use Rattle.chain_stages.specs.Stages.{spread};
 
 use chain_stages::Element;
-use loop_data::{Many, TextValue, Value};
+use loop_data::{Boxed, Many, TextValue, Value};
 use loop_meaning::Pair;
 use no_memory::NoMemory;
 use std::alloc::Global;
@@ -48,7 +48,7 @@ pub(crate) fn spread_copy(
     name: &TextValue,
     element: &Element,
     k: u64,
-) -> Result<Element, NoMemory>
+) -> Result<Boxed<Element>, NoMemory>
     requires least { 1 ≤ k }
     requires most { k ≤ element.now.inner.count }
     requires enters { Enters true element.now }
@@ -58,13 +58,15 @@ pub(crate) fn spread_copy(
     let mut env = element.env.copy(alloc)?;
     let item = element.inner.item(k);
     env.bind(alloc, name.as_str(), Value::Int(item))?;
-    Ok(Element {
+    let emitted = copy_pairs(alloc, &element.emitted)?;
+    let copy = Element {
         env,
         width: element.width * element.inner.count,
         mark: element.mark,
         inner: element.inner,
-        emitted: copy_pairs(alloc, &element.emitted)?,
-    })
+        emitted,
+    };
+    Boxed::new(alloc, copy)
 }
 
 /// The element for the last item of the inner range, which is the element itself, moved.
@@ -72,7 +74,7 @@ pub(crate) fn spread_last(
     alloc: Global,
     name: &TextValue,
     element: Element,
-) -> Result<Element, NoMemory>
+) -> Result<Boxed<Element>, NoMemory>
     requires some { 1 ≤ element.inner.count }
     requires enters { Enters true element }
     ensures { IfOk result (λ e. e ≡ spread name.now element
@@ -83,5 +85,5 @@ pub(crate) fn spread_last(
     let item = element.inner.item(count);
     element.env.bind(alloc, name.as_str(), Value::Int(item))?;
     element.width *= count;
-    Ok(element)
+    Boxed::new(alloc, element)
 }

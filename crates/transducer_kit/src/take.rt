@@ -17,21 +17,28 @@ use crate::{
     Filtering, KeepingSomething, MapSplatting, Mapping, PassStop, Reducing, ReducingIf, Taking,
 };
 use chain_stages::{Doing, Element, Source, Stage, StepEnd, Test};
-use loop_data::{Expr, Many, TextValue, Value};
+use loop_data::{Boxed, Expr, Many, TextValue, Value};
 use loop_values::eval;
 use no_memory::NoMemory;
 use std::alloc::Global;
 
 /// An element or none, and the end after it.
-type Took = (Option<Element>, StepEnd);
+type Took = (Option<Boxed<Element>>, StepEnd);
 
-fn take_map(alloc: Global, line: u32, action: &Doing, element: Element) -> Result<Took, NoMemory>
+fn take_map(
+    alloc: Global,
+    line: u32,
+    action: &Doing,
+    element: Boxed<Element>,
+) -> Result<Took, NoMemory>
     requires enters { Enters false element }
     ensures through { IfOk result (λ took. let_through took.0 took.1 ≡ mapped line action.now element) }
     ensures enters { IfOk result (λ took. (e : Element) → took.0 ≡ Some e → Enters (sets_range action.now) e) }
 {
     let stage = Mapping::new(
-        |e: Element| -> Result<Element, PassStop> { map_element(alloc, line, action, e) },
+        |e: Boxed<Element>| -> Result<Boxed<Element>, PassStop> {
+            map_element(alloc, line, action, e)
+        },
         Taking::new(),
     );
     let mut taken = None;
@@ -43,7 +50,7 @@ fn take_parts(
     alloc: Global,
     names: &[TextValue],
     parts: Many<Value>,
-    element: Element,
+    element: Boxed<Element>,
 ) -> Result<Took, NoMemory>
     requires enters { Enters false element }
     ensures through { IfOk result (λ took. let_through took.0 took.1
@@ -51,7 +58,7 @@ fn take_parts(
     ensures enters { IfOk result (λ took. (e : Element) → took.0 ≡ Some e → Enters false e) }
 {
     let stage = MapSplatting::new(
-        |e: Element, parts: &[Value]| -> Result<Element, PassStop> {
+        |e: Boxed<Element>, parts: &[Value]| -> Result<Boxed<Element>, PassStop> {
             splat_parts(alloc, names, parts, e)
         },
         Taking::new(),
@@ -66,7 +73,7 @@ fn take_splat(
     line: u32,
     names: &[TextValue],
     source: &Source,
-    element: Element,
+    element: Boxed<Element>,
 ) -> Result<Took, NoMemory>
     requires enters { Enters false element }
     ensures through { IfOk result (λ took. let_through took.0 took.1
@@ -75,24 +82,29 @@ fn take_splat(
 {
     match source {
         Source::Item => {
-            let parts = item_parts(alloc, &element.env)?;
+            let parts = item_parts(alloc, &element.get().env)?;
             take_parts(alloc, names, parts, element)
         }
-        Source::Of(expr) => match eval(alloc, expr, &element.env) {
+        Source::Of(expr) => match eval(alloc, expr, &element.get().env) {
             Err(stop) => Ok((None, stopped_at(line, stop).answer()?)),
             Ok(value) => take_parts(alloc, names, into_parts(alloc, value), element),
         },
     }
 }
 
-fn take_filter(alloc: Global, line: u32, test: &Test, element: Element) -> Result<Took, NoMemory>
+fn take_filter(
+    alloc: Global,
+    line: u32,
+    test: &Test,
+    element: Boxed<Element>,
+) -> Result<Took, NoMemory>
     requires enters { Enters false element }
     ensures through { IfOk result (λ took. let_through took.0 took.1
         ≡ filtered line (passes test.now element) element) }
     ensures enters { IfOk result (λ took. (e : Element) → took.0 ≡ Some e → Enters false e) }
 {
     let stage = Filtering::new(
-        |e: &Element| -> Result<bool, PassStop> { passes(alloc, line, test, e) },
+        |e: &Boxed<Element>| -> Result<bool, PassStop> { passes(alloc, line, test, e.get()) },
         Taking::new(),
     );
     let mut taken = None;
@@ -105,7 +117,7 @@ fn take_keep(
     line: u32,
     name: &TextValue,
     expr: &Expr,
-    element: Element,
+    element: Boxed<Element>,
 ) -> Result<Took, NoMemory>
     requires enters { Enters false element }
     ensures through { IfOk result (λ took. let_through took.0 took.1
@@ -113,7 +125,7 @@ fn take_keep(
     ensures enters { IfOk result (λ took. (e : Element) → took.0 ≡ Some e → Enters false e) }
 {
     let stage = KeepingSomething::new(
-        |e: Element| -> Result<Option<Element>, PassStop> {
+        |e: Boxed<Element>| -> Result<Option<Boxed<Element>>, PassStop> {
             keep_value(alloc, line, name, expr, e)
         },
         Taking::new(),
@@ -123,14 +135,19 @@ fn take_keep(
     Ok((taken, end))
 }
 
-fn take_up_to(alloc: Global, line: u32, test: &Test, element: Element) -> Result<Took, NoMemory>
+fn take_up_to(
+    alloc: Global,
+    line: u32,
+    test: &Test,
+    element: Boxed<Element>,
+) -> Result<Took, NoMemory>
     requires enters { Enters false element }
     ensures through { IfOk result (λ took. let_through took.0 took.1
         ≡ reduced_if line (passes test.now element) element) }
     ensures enters { IfOk result (λ took. (e : Element) → took.0 ≡ Some e → Enters false e) }
 {
     let stage = ReducingIf::new(
-        |e: &Element| -> Result<bool, PassStop> { passes(alloc, line, test, e) },
+        |e: &Boxed<Element>| -> Result<bool, PassStop> { passes(alloc, line, test, e.get()) },
         line,
         Taking::new(),
     );
@@ -140,7 +157,11 @@ fn take_up_to(alloc: Global, line: u32, test: &Test, element: Element) -> Result
 }
 
 /// What a stage, which is no `Cat`, lets through for one element: an element or none, and the end after it.
-pub(crate) fn take_stage(alloc: Global, stage: &Stage, element: Element) -> Result<Took, NoMemory>
+pub(crate) fn take_stage(
+    alloc: Global,
+    stage: &Stage,
+    element: Boxed<Element>,
+) -> Result<Took, NoMemory>
     requires other { cat_name stage.now ≡ None }
     requires enters { Enters false element }
     ensures through { IfOk result (λ took. let_through took.0 took.1 ≡ through stage.now element) }
