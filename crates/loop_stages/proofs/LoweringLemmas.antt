@@ -47,7 +47,8 @@ use Rattle.loop_stages.proofs.LegalLemmas.{legal_is_apart}
 use Rattle.loop_stages.proofs.NameLemmas.{parts_alike}
 
 -- a name that isn't unseen isn't `@item`
-not_item : (program : ProgramTree) → is_unseen program item_name ≡ true → (n : List ℕ) → is_unseen program n ≡ false → n ≢ item_name
+not_item : (program : ProgramTree) → is_unseen program item_name ≡ true → (n : List ℕ) → is_unseen program n ≡ false →
+    n ≢ item_name
 not_item program unseen n seen is = absurd (cc (seen, ap (is_unseen program) is, unseen))
 
 module _ (program : ProgramTree) (facts : IsApart program) where
@@ -69,16 +70,20 @@ module _ (program : ProgramTree) (facts : IsApart program) where
 
   -- an item that is taken apart
   splat_behind : (names : Bindings) (ns : List (List ℕ)) (item : Value) →
-      HeadsBehind (with_parts names ns (parts_of item)) (alone (beginning (insert names item_name item))) (MapSplat program.head.line ns Item ∷ rest)
+      HeadsBehind (with_parts names ns (parts_of item)) (alone (beginning (insert names item_name item)))
+      (MapSplat program.head.line ns Item ∷ rest)
   splat_behind names ns item =
       let env = insert names item_name item in
       let found : or_nothing (get env item_name) ≡ item = ap or_nothing (get-bound names item_name item) in
-      subst (λ v. HeadsBehind (with_parts names ns (parts_of item)) (alone (beginning (with_parts env ns (parts_of v)))) rest) (sym found)
+      subst (λ v. HeadsBehind (with_parts names ns (parts_of item)) (alone (beginning (with_parts env ns (parts_of v)))) rest)
+      (sym found)
       (heads (with_parts names ns (parts_of item)) (with_parts env ns (parts_of item))
-      (λ n seen. parts_alike n ns (parts_of item) names env (sym (get-other names item_name n item (not_item program facts.unnamed n seen)))))
+      (λ n seen. parts_alike n ns (parts_of item) names env
+      (sym (get-other names item_name n item (not_item program facts.unnamed n seen)))))
 
   pattern_behind : (names : Bindings) (ns : List (List ℕ)) (item : Value) →
-      HeadsBehind (with_pattern names ns item) (alone (beginning (with_item names ns item))) (pattern_stages program.head.line ns ++ rest)
+      HeadsBehind (with_pattern names ns item) (alone (beginning (with_item names ns item)))
+      (pattern_stages program.head.line ns ++ rest)
   pattern_behind names [] item = splat_behind names [] item
   pattern_behind names (m ∷ []) item = heads (insert names m item) (insert names m item) (λ n seen. refl)
   pattern_behind names (m ∷ k ∷ ms) item = splat_behind names (m ∷ k ∷ ms) item
@@ -88,40 +93,54 @@ module _ (program : ProgramTree) (facts : IsApart program) where
   abbrev step_run : Value → ℕ → BodyRun
   step_run item place = inner_runs program program.head.inner 1 (first_run (names_for program (start_store program) item place))
 
-  pub item_behind : (item : Value) (place : ℕ) → Behind (stage_line program) [] (step_run item place).flow (step_run item place).emitted (item_output program item place)
+  pub item_behind : (item : Value) (place : ℕ) →
+      Behind (stage_line program) [] (step_run item place).flow (step_run item place).emitted (item_output program item place)
   item_behind item place = pattern_behind (insert (start_store program) place_name (Int (pos place))) program.head.names item
 
 -- ---- one item
 
-as_step : (program : ProgramTree) (f : Flow) (store : Bindings) (emitted : List Pair) (o : Output) → Behind (stage_line program) [] f emitted o →
+as_step : (program : ProgramTree) (f : Flow) (store : Bindings) (emitted : List Pair) (o : Output) →
+    Behind (stage_line program) [] f emitted o →
     IsAsStep program (record { store = store; emitted = emitted; end = end_of f }) o
 as_step program flow.Going store emitted o b = record { emitted = b.1; end = subst (SameEnd program end.Next) (sym b.0) tt }
 as_step program flow.Continued store emitted o b = absurd b
-as_step program (flow.Broke line) store emitted o b = record { emitted = b.1; end = subst (SameEnd program (end.Break line)) (sym b.0) refl }
-as_step program (flow.Faulted line kind) store emitted o b = record { emitted = b.1; end = subst (SameEnd program (end.Fault line kind)) (sym b.0) (refl, refl) }
+as_step program (flow.Broke line) store emitted o b =
+    record { emitted = b.1; end = subst (SameEnd program (end.Break line)) (sym b.0) refl }
+as_step program (flow.Faulted line kind) store emitted o b =
+    record { emitted = b.1; end = subst (SameEnd program (end.Fault line kind)) (sym b.0) (refl, refl) }
 
 pub items_are_steps : ItemsAreSteps
 items_are_steps program legal formed item place =
     let facts = legal_is_apart program legal formed in
     let run = step_run program facts item place in
-    as_step program run.flow (body_step program (start_store program) item place).store run.emitted (item_output program item place) (item_behind program facts item place)
+    as_step program run.flow (body_step program (start_store program) item place).store run.emitted
+    (item_output program item place) (item_behind program facts item place)
 
 -- ---- runs
 
-pairs_append : (how : PlainStop) (xs ys more others : List Pair) → xs ≡ ys → SamePairs how more others → SamePairs how (xs ++ more) (ys ++ others)
+pairs_append : (how : PlainStop) (xs ys more others : List Pair) → xs ≡ ys → SamePairs how more others →
+    SamePairs how (xs ++ more) (ys ++ others)
 pairs_append stop.Ran xs ys more others e same = ap (λ zs. zs ++ more) e ∙ ap (λ zs. ys ++ zs) same
 pairs_append (stop.Break place line) xs ys more others e same = ap (λ zs. zs ++ more) e ∙ ap (λ zs. ys ++ zs) same
 pairs_append (stop.Fault place line kind) xs ys more others e same = tt
 
 -- a step before a run, and an item before the others
-item_first : (program : ProgramTree) (skips : Bool) (e : BodyEnd) (step : Step) (f : StepEnd) (pairs : List Pair) (place : ℕ) (run : Run) (items : Taken) →
-    SamePairsAt e step.emitted pairs → SameEnd program e f → IsAsRun program run items → IsAsRun program (with_step skips e step place run) (with_item_output skips f pairs place items)
+item_first : (program : ProgramTree) (skips : Bool) (e : BodyEnd) (step : Step) (f : StepEnd) (pairs : List Pair) (place : ℕ)
+    (run : Run) (items : Taken) →
+    SamePairsAt e step.emitted pairs → SameEnd program e f → IsAsRun program run items →
+    IsAsRun program (with_step skips e step place run) (with_item_output skips f pairs place items)
 item_first program skips end.Next step step_end.Going pairs place run items p h same =
-    record { emitted = pairs_append run.stop step.emitted pairs run.emitted items.emitted p same.emitted; left_out = same.left_out; stop = same.stop }
+    record {
+      emitted = pairs_append run.stop step.emitted pairs run.emitted items.emitted p same.emitted;
+      left_out =
+          same.left_out;
+      stop = same.stop;
+    }
 item_first program skips end.Next step (step_end.Ended l) pairs place run items p h same = absurd h
 item_first program skips end.Next step (step_end.Fault l k) pairs place run items p h same = absurd h
 item_first program skips (end.Break line) step step_end.Going pairs place run items p h same = absurd h
-item_first program skips (end.Break line) step (step_end.Ended l) pairs place run items p h same = record { emitted = p; left_out = refl; stop = (refl, h) }
+item_first program skips (end.Break line) step (step_end.Ended l) pairs place run items p h same =
+    record { emitted = p; left_out = refl; stop = (refl, h) }
 item_first program skips (end.Break line) step (step_end.Fault l k) pairs place run items p h same = absurd h
 item_first program skips (end.Fault line kind) step step_end.Going pairs place run items p h same = absurd h
 item_first program skips (end.Fault line kind) step (step_end.Ended l) pairs place run items p h same = absurd h
@@ -130,7 +149,8 @@ item_first program true (end.Fault line kind) step (step_end.Fault l k) pairs pl
 item_first program false (end.Fault line kind) step (step_end.Fault l k) pairs place run items p h same =
     record { emitted = tt; left_out = refl; stop = (refl, h.0, h.1) }
 
-from_reached : (program : ProgramTree) → IsLegal program → is_well_formed program ≡ true → (store : Bindings) → IsReached program store → (items : List Value) (place : ℕ) →
+from_reached : (program : ProgramTree) → IsLegal program → is_well_formed program ≡ true → (store : Bindings) →
+    IsReached program store → (items : List Value) (place : ℕ) →
     IsAsRun program (loop_run program store items place) (items_taken program items place)
 from_reached program legal formed store is [] place = record { emitted = refl; left_out = refl; stop = tt }
 from_reached program legal formed store is (item ∷ items) place =
@@ -140,9 +160,11 @@ from_reached program legal formed store is (item ∷ items) place =
     let as_first = reached_steps program legal store is item place in
     let pairs : SamePairsAt step.end step.emitted (emitted_by o.elements) =
     subst (λ e. SamePairsAt e step.emitted (emitted_by o.elements)) (sym as_first.1)
-    (subst (λ xs. SamePairsAt (body_step program (start_store program) item place).end xs (emitted_by o.elements)) (sym as_first.0) at_first.emitted) in
+    (subst (λ xs. SamePairsAt (body_step program (start_store program) item place).end xs (emitted_by o.elements))
+    (sym as_first.0) at_first.emitted) in
     let ends : SameEnd program step.end o.end = subst (λ e. SameEnd program e o.end) (sym as_first.1) at_first.end in
-    item_first program (skips_faults program) step.end step o.end (emitted_by o.elements) place (loop_run program step.store items (place + 1)) (items_taken program items (place + 1))
+    item_first program (skips_faults program) step.end step o.end (emitted_by o.elements) place
+    (loop_run program step.store items (place + 1)) (items_taken program items (place + 1))
     pairs ends
     (from_reached program legal formed step.store (one_more is item place) items (place + 1))
 

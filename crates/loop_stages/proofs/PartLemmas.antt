@@ -17,12 +17,14 @@ nothing_before : (more : Taken) → more ≡ then_taken (taken [] 0 stop.Ran) mo
 nothing_before more = same_taken more.stop _ _ _ _ refl (omega arith)
 
 next_first : (skips : Bool) (pairs : List Pair) (place : ℕ) (rest more : Taken) (how : PlainStop) →
-    with_item_output skips Going pairs place (after_stop how rest more) ≡ after_stop how (with_item_output skips Going pairs place rest) more
+    with_item_output skips Going pairs place (after_stop how rest more)
+    ≡ after_stop how (with_item_output skips Going pairs place rest) more
 next_first skips pairs place rest more stop.Ran = same_taken more.stop _ _ _ _ (sym (append_assoc pairs _ _)) refl
 next_first skips pairs place rest more _ = refl
 
 skipped_first : (line kind : ℕ) (pairs : List Pair) (place : ℕ) (rest more : Taken) (how : PlainStop) →
-    with_item_output true (Fault line kind) pairs place (after_stop how rest more) ≡ after_stop how (with_item_output true (Fault line kind) pairs place rest) more
+    with_item_output true (Fault line kind) pairs place (after_stop how rest more)
+    ≡ after_stop how (with_item_output true (Fault line kind) pairs place rest) more
 skipped_first line kind pairs place rest more stop.Ran = same_taken more.stop _ _ _ _ refl (omega arith)
 skipped_first line kind pairs place rest more _ = refl
 

@@ -1,8 +1,10 @@
 -- The line of the stage to which a `break` is lowered.
 -- Source: this project.
-use Rattle.std.specs.Prelude.{ℕ, zero, suc, if◌then◌else◌, List, [], ◌∷◌}
+use Rattle.std.specs.Prelude.{ℕ, ◌==◌, zero, suc, Bool, false, if◌then◌else◌, List, [], ◌∷◌}
 use Rattle.loop_data.specs.declared.statement.Statement.{Statement}
 use Rattle.loop_grammar.specs.declared.tree.ProgramTree.{ProgramTree}
+use Rattle.chain_stages.specs.declared.stages.Stage.{Stage}
+use Rattle.chain_stages.specs.declared.stages.Stage.TheVariants.{ReduceIf}
 use Rattle.loop_stages.specs.Holding.{holds, is_break_on, is_reduce}
 use Rattle.loop_stages.specs.Lowering.{line_of, most_before_split}
 
@@ -18,3 +20,8 @@ stage_line_in (suc room) (x ∷ xs) line =
 -- the line of the `ReduceIf` stage to which a program's `break` on this line is lowered
 abbrev pub stage_line : ProgramTree → ℕ → ℕ
 stage_line program = stage_line_in most_before_split program.body
+
+-- whether a stage is a `ReduceIf` on this line
+abbrev pub ends_on : ℕ → Stage → Bool
+ends_on line (ReduceIf l test) = l == line
+ends_on line _ = false

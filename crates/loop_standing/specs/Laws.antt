@@ -1,6 +1,6 @@
 -- The five laws of a job, of what the answers of a loop's stretches stand for. Each is the contract of a function of laws.
 -- Source: this project.
-use Rattle.std.specs.Prelude.{◌≤◌, ◌<◌, ◌^◌, ◌+◌, List}
+use Rattle.std.specs.Prelude.{◌<◌, ◌^◌, ◌+◌, List}
 use Rattle.loop_data.specs.declared.value.Value.{Value}
 use Rattle.loop_grammar.specs.declared.tree.ProgramTree.{ProgramTree}
 use Rattle.legality_rules.specs.Offences.{IsLegal}
