@@ -1,6 +1,6 @@
 //! Parts of loops against the plain loop over their items.
 
-ghost use Rattle.std.specs.Prelude.{◌≡◌};
+ghost use Rattle.std.specs.Prelude.{◌≡◌, ◌≤◌};
 ghost use Rattle.splittable.specs.Nodes.{IsNode};
 
 use crate::loops::{legal, table_of};
@@ -143,6 +143,7 @@ fn plain_text(alloc: Global, case: &Case<'_, '_>, first: u64, len: u64) -> Resul
 fn check_part<H: Abort>(rt: &H, alloc: Global, case: &Case<'_, '_>, part: Part) -> Result<(), Fail>
     requires lens { part.lens ≡ case.now.job.now.head.lens }
     requires node { IsNode part.lens 1 part }
+    requires some { 1 ≤ part.len }
 {
     let answer = case.job.run_part(alloc, &part)?;
     let got = answer_text(alloc, &answer)?;
