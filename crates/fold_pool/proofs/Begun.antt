@@ -1,10 +1,10 @@
 -- How a worker's log grows as it takes parts from the queue.
-use Rattle.std.proofs.Common.{◌≡◌, ℕ, zero, suc, ◌+◌, ◌<◌, ◌≤◌, if◌then◌else◌, Bool, true, false, List, [], ◌∷◌, ◌++◌, append_assoc, map, length, take, refl, sym, ap, ◌∙◌, subst, arith}
+use Rattle.std.proofs.Common.{◌≡◌, ℕ, zero, suc, ◌<◌, ◌≤◌, if◌then◌else◌, Bool, true, false, List, [], ◌∷◌, ◌++◌, append_assoc, map, length, take, refl, sym, ap, ◌∙◌, subst, arith}
 use Rattle.std.specs.Prelude.{nat_lt, slice_get, Some}
 use Rattle.std.proofs.lemmas.Bool.{ltb-true}
 use Rattle.std.proofs.lemmas.List.{append-nil, map-append, length_push}
 use Rattle.splittable.specs.Parts.{Stretch}
-use Rattle.splittable.specs.Nodes.{IsNode, IsLeaf}
+use Rattle.splittable.specs.Nodes.{IsLeaf}
 use Rattle.fold_seq.specs.declared.answers.Reduced.{Reduced}
 use Rattle.stop_word.specs.Seats.{SeatState as StopState}
 use Rattle.piece_ledger.specs.declared.outcomes.Outcome.{Outcome}

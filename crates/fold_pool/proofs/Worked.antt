@@ -13,12 +13,12 @@ use Rattle.fold_seq.specs.Standing.{StopLies}
 use Rattle.stop_word.specs.Numbers.{AreAmong}
 use Rattle.stop_word.specs.Seats.{SeatState as StopState}
 use Rattle.piece_ledger.specs.declared.outcomes.Outcome.{Outcome}
-use Rattle.piece_ledger.specs.Logs.{outcomes_of, IsOrdered}
+use Rattle.piece_ledger.specs.Logs.{outcomes_of}
 use Rattle.piece_ledger.specs.Kept.{IsKept, AreKept}
 use Rattle.piece_ledger.proofs.Together.{outcomes_of_both, kept_one, kept_both, kept_next, order_next, one_ordered, AreAll, all_kept}
 use Rattle.fold_pool.specs.Seats.{SeatState as LineState}
 use Rattle.fold_pool.specs.Taken.{whole_weight}
-use Rattle.fold_pool.specs.Pools.{SameLine, HasTakenInOrder, HasBegun, HaveWorked}
+use Rattle.fold_pool.specs.Pools.{HasTakenInOrder, HasBegun, HaveWorked}
 
 pub ok_of : {A E : Type 0} (P : A → Type 0) (r : Result A E) (x : A) → r ≡ Ok x → IfOk r P → P x
 ok_of P r x e h = subst (λ y. IfOk y P) e h

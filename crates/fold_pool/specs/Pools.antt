@@ -2,7 +2,6 @@
 -- Source: this project.
 use Rattle.std.specs.Prelude.{◌≡◌, ℕ, ◌≤◌, List, [], ◌++◌, map, length, take}
 use Rattle.atomic_table.specs.Seated.{TableId}
-use Rattle.splittable.specs.Parts.{Stretch}
 use Rattle.fold_seq.specs.declared.answers.Reduced.{Reduced}
 use Rattle.stop_word.specs.Seats.{SeatState as StopState}
 use Rattle.fold_pool.specs.Seats.{SeatState as LineState}
