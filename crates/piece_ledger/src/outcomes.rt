@@ -58,6 +58,14 @@ impl<S: Drop> WorkerLog<S> {
         Ok(())
     }
 
+    /// Makes room for one outcome more, so that the next one is put there with no memory taken.
+    pub fn make_room(&mut self) -> Result<(), NoMemory>
+        ensures { self.new ≡ self.old }
+    {
+        self.outcomes.reserve(1)?;
+        Ok(())
+    }
+
     /// The outcomes, in order.
     pub fn as_slice(&self) -> &[Outcome<S>]
         ensures { result.now ≡ self.now }
