@@ -153,6 +153,7 @@ impl StealCrew {
         mut rows: Vec<Vec<PartThief>>,
         workers: u32,
     ) -> Result<Vec<StealSeat<S>>, NoMemory>
+        requires large { least_part_of 1 (item_count self.now.lens) ≤ self.now.least }
         requires dealt { IsDealt self.now.lens self.now.least workers parts.now }
         requires stops { AreStops self.now.word workers stops.items }
         requires deques { AreDeques self.now.lens self.now.least parts.now workers workers
