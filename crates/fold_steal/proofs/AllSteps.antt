@@ -11,8 +11,10 @@ use Rattle.part_deque.specs.Rule.{whole_weight}
 use Rattle.part_deque.specs.Ends.{DequeId, OwnerEnd, ThiefEnd}
 use Rattle.fold_steal.specs.declared.seats.Held.{Held}
 use Rattle.fold_steal.specs.Crews.{CrewNow, Fixed, fixed, all_fixed, placed, IsOf, BeginsAt, first_weight, AreColumns, owner_of, AreAll}
-use Rattle.fold_steal.specs.Deals.{IsDealt}
+use Rattle.fold_steal.specs.Deals.{IsDealt, first_deal}
+use Rattle.fold_steal.specs.Cuts.{IsFreshStop, HasAdded}
 use Rattle.fold_steal.specs.NewSeats.{owner_key, AreStops, AreDeques, IsNewSeat, AreNewSeats, HaveEnds}
+use Rattle.fold_steal.proofs.DealSteps.{first_deal_is_all}
 
 -- ---- columns of ends that stay where they are
 
@@ -61,6 +63,15 @@ dealt_from crew number (x ∷ xs) (s ∷ seats) h few =
     let rest = dealt_from crew (suc number) xs seats h.1 (omega arith) in
     let here : (fixed s).dealt ≡ x ∷ [] = h.0.dealt_is in
     (λ i. here i ++ rest i)
+
+pub dealt_parts : (lens : List ℕ) (least workers : ℕ) (parts items : List Stretch) → parts ≡ items → items ≡ first_deal lens least workers → 1 ≤ least → 1 ≤ workers → IsDealt lens least workers parts
+dealt_parts lens least workers parts items e e' some any = subst (IsDealt lens least workers) (sym (e ∙ e')) (first_deal_is_all lens least workers some any)
+
+-- stop seats that were cut of the one that had the whole weight
+pub cut_all : (word : TableId) (many weight : ℕ) (none stops : List SeatState) → none ≡ [] → weight ≡ whole_weight → HasAdded (IsFreshStop word) (λ (s : SeatState). s.weight) many weight none stops → AreStops word many stops
+cut_all word many weight none stops empty whole h =
+    let is : stops ≡ h.shares = h.added ∙ ap (λ l. l ++ h.shares) empty in
+    subst (AreStops word many) (sym is) (record { many_are = h.many_are; fresh = h.each; weights = h.weights ∙ whole })
 
 module _ {S : Type 0} where
   all_of : (crew : CrewNow) (number : ℕ) (parts : List Stretch) (seats : List (Held S)) → AreNewSeats crew number parts seats → AllByRecursion (IsOf crew) (all_fixed seats)
