@@ -1,19 +1,25 @@
 -- The seats of a new crew are all its seats.
 use Rattle.std.proofs.Common.{◌≡◌, ℕ, zero, suc, ◌+◌, ◌-◌, ◌<◌, ◌≤◌, Option, List, [], ◌∷◌, ◌++◌, append-nil, length, map, take, drop, option_to_list, sum_by, refl, sym, ap, ◌∙◌, subst, arith}
-use Rattle.std.specs.List.{AllByRecursion, flat_map}
+use Rattle.std.specs.List.{All, AllByRecursion, flat_map}
+use Rattle.std.proofs.lemmas.List.Elements.{All-nil, All-from_recursion}
 use Rattle.std.proofs.lemmas.List.{length-map}
 use Rattle.std.proofs.lemmas.List.Sums.{sum_by-cons}
 use Rattle.atomic_table.specs.Seated.{TableId}
 use Rattle.splittable.specs.Places.{item_count}
 use Rattle.splittable.specs.Parts.{Stretch, AreNeighbours}
+use Rattle.fold_seq.specs.declared.answers.Reduced.{Reduced}
 use Rattle.stop_word.specs.Seats.{SeatState}
 use Rattle.part_deque.specs.Rule.{whole_weight}
 use Rattle.part_deque.specs.Ends.{DequeId, OwnerEnd, ThiefEnd}
+use Rattle.piece_ledger.specs.declared.outcomes.Outcome.{Outcome}
+use Rattle.piece_ledger.specs.Outcomes.{KindStands}
+use Rattle.piece_ledger.specs.Logs.{OutcomesStand}
 use Rattle.fold_steal.specs.declared.seats.Held.{Held}
 use Rattle.fold_steal.specs.Crews.{CrewNow, Fixed, fixed, all_fixed, placed, IsOf, BeginsAt, first_weight, AreColumns, owner_of, AreAll}
 use Rattle.fold_steal.specs.Deals.{IsDealt, first_deal}
 use Rattle.fold_steal.specs.Cuts.{IsFreshStop, HasAdded}
 use Rattle.fold_steal.specs.NewSeats.{owner_key, AreStops, AreDeques, IsNewSeat, AreNewSeats, HaveEnds}
+use Rattle.fold_steal.specs.Working.{MayTurn}
 use Rattle.fold_steal.proofs.DealSteps.{first_deal_is_all}
 
 -- ---- columns of ends that stay where they are
@@ -110,3 +116,17 @@ module _ {S : Type 0} where
         shares = shares_fixed seats ∙ ap (sum_by (λ (s : SeatState). s.weight)) ends.stops_are ∙ share.weights;
         deal = subst (λ ps. AreNeighbours 1 ps (item_count crew.lens + 1)) (sym (dealt_from crew 0 parts seats new (omega arith))) deal.near;
       }
+
+  new_turn : (stands : ℕ → ℕ → Reduced S → Type 0) (crew : CrewNow) (number : ℕ) (parts : List Stretch) (seats : List (Held S)) → AreNewSeats crew number parts seats → AllByRecursion (MayTurn crew stands) seats
+  new_turn stands crew number parts [] h = tt
+  new_turn stands crew number parts (s ∷ seats) h = (
+    record {
+      of = (ap (λ (o : OwnerEnd). o.lens) h.0.owner, ap (λ (o : OwnerEnd). o.least) h.0.owner, h.0.stop.word_is);
+      standing = subst (OutcomesStand stands) (sym h.0.log) (All-nil (λ (o : Outcome S). KindStands stands o.part o.kind));
+    },
+    new_turn stands crew (suc number) (drop 1 parts) seats h.1,
+  )
+
+  -- new seats may take turns
+  pub new_may_turn : (stands : ℕ → ℕ → Reduced S → Type 0) (crew : CrewNow) (parts : List Stretch) (seats : List (Held S)) → AreNewSeats crew 0 parts seats → All (MayTurn crew stands) seats
+  new_may_turn stands crew parts seats h = All-from_recursion (MayTurn crew stands) seats (new_turn stands crew 0 parts seats h)
