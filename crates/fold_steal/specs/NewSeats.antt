@@ -56,8 +56,8 @@ pub record AreDeques (lens : List ℕ) (least : ℕ) (parts : List Stretch) (man
   pub new_rows : AllByRecursion (IsNewRow lens least many) rows
 
 module _ {S : Type 0} where
-  -- A seat before its first turn, with this number and these parts dealt to it, at most one: it is on its deque, its stack and log
-  -- are empty, its stop seat has reported and seen nothing, and its ends took nothing and missed nothing.
+  -- A seat before its first turn, with this number and these parts dealt to it, at most one. They lie on its deque, its stack and
+  -- log are empty, its stop seat has reported and seen nothing, and its ends took nothing and missed nothing.
   pub record IsNewSeat (crew : CrewNow) (number : ℕ) (dealt : List Stretch) (seat : Held S) : Type 0 where
     pub number_is : seat.number ≡ number
     pub dealt_is : option_to_list seat.dealt ≡ dealt
