@@ -83,9 +83,11 @@ module _ {S : Type 0} where
       AreNewSeats crew number parts (seats ++ s ∷ [])
   new_seats_more crew number parts [] s h one = let e : number + 0 ≡ number = omega arith in (subst (λ n. IsNewSeat crew n (take 1 parts) s) e one, tt)
   new_seats_more crew number parts (x ∷ seats) s h one =
-      let e : number + suc (length seats) ≡ suc number + length seats = omega arith in
-      (h.0, new_seats_more crew (suc number) (drop 1 parts) seats s h.1
-      (subst (λ (p : ℕ × List Stretch). IsNewSeat crew p.0 (take 1 p.1) s) (λ i. (e i, sym (drop_then (length seats) parts) i)) one))
+      let e : number + suc (length seats) ≡ suc number + length seats = omega arith in (
+        h.0,
+        new_seats_more crew (suc number) (drop 1 parts) seats s h.1
+            (subst (λ (p : ℕ × List Stretch). IsNewSeat crew p.0 (take 1 p.1) s) (λ i. (e i, sym (drop_then (length seats) parts) i)) one),
+      )
 
   new_as : (crew : CrewNow) (number : ℕ) (dealt : List Stretch) (s : Held S) → IsNewSeat (crew_with crew.lens crew.least crew.word) number dealt s → IsNewSeat crew number dealt s
   new_as crew number dealt s h = record { number_is = h.number_is; dealt_is = h.dealt_is; stack = h.stack; log = h.log; stop = h.stop; owner = h.owner; thieves = h.thieves }

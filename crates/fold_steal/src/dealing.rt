@@ -40,11 +40,7 @@ fn halve_one(parts: &mut Vec<Part>, len: u64) -> Result<(), NoMemory>
 }
 
 /// Halves the first of the longest parts so many times, while it is longer than the least part size.
-fn halve_longest(
-    mut parts: Vec<Part>,
-    least: u64,
-    rounds: u32,
-) -> Result<Vec<Part>, NoMemory>
+fn halve_longest(mut parts: Vec<Part>, least: u64, rounds: u32) -> Result<Vec<Part>, NoMemory>
     requires { 1 ≤ least }
     ensures { IfOk result (λ new. new.items ≡ deal_rounds rounds least parts.items) }
 {

@@ -30,7 +30,11 @@ use stop_word::{StopSeat, StopWord};
 fn part_at(parts: &[Part], k: usize) -> Option<Part>
     ensures { option_to_list result ≡ take 1 (drop k parts.now) }
 {
-    if k < parts.len() { Some(parts[k]) } else { None }
+    if k < parts.len() {
+        Some(parts[k])
+    } else {
+        None
+    }
 }
 
 /// A new deque, on which the part that was dealt lies.
