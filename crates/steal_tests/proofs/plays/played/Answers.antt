@@ -1,0 +1,8 @@
+use Rattle.fold_steal.specs.Deals.{first_deal}
+use Rattle.fold_steal.proofs.AllSteps.{new_may_turn}
+use Rattle.steal_tests.proofs.plays.played.Goals as goal
+
+pub play-requires-clause-may : goal.play-requires-clause-may
+play-requires-clause-may g c κs within =
+    let crew = c.in_ok-crew.crew in
+    new_may_turn (g.J.Job.stands c.args.job.now) crew (first_deal crew.lens crew.least c.args.workers) c.in_ok-crew.seats.items c.in_ok-crew.ensures.seats
