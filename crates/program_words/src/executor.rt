@@ -8,10 +8,12 @@ ghost use Rattle.program_words.specs.Executors.{executor_word, executor_named, e
 pub enum Executor {
     /// The whole as one part, on one thread.
     Seq,
+    /// By divide and conquer: halves of halves, on threads that are joined.
+    Halves,
 }
 
 /// All executors.
-const EXECUTORS: [Executor; 1] = [Executor::Seq];
+const EXECUTORS: [Executor; 2] = [Executor::Seq, Executor::Halves];
 
 impl Executor {
     /// The word by which the executor is given.
@@ -20,6 +22,7 @@ impl Executor {
     {
         match self {
             Executor::Seq => "seq",
+            Executor::Halves => "halves",
         }
     }
 }
