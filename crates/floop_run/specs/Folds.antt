@@ -1,14 +1,12 @@
 -- What was folded, what a request asks of its fold, and which reports of it are lawful.
 -- Source: this project.
-use Rattle.std.specs.Prelude.{ℕ, Bool, true, false, List, [], ◌∷◌, ◌++◌, codes, max, Option, Some, None}
+use Rattle.std.specs.Prelude.{ℕ, Bool, true, false, List, [], ◌∷◌, ◌++◌, codes, Option, Some, None}
 use Rattle.std.specs.Fmt.{decimal}
-use Rattle.program_words.specs.declared.executor.Executor.{Executor}
-use Rattle.program_words.specs.declared.executor.Executor.TheVariants as executor
 use Rattle.program_words.specs.Requests.{Request}
 use Rattle.program_words.specs.Values.{executor_of, base_of, workers_of}
-use Rattle.splittable.specs.Places.{item_count}
 use Rattle.piece_ledger.specs.declared.tallies.Tally.{Tally}
 use Rattle.piece_ledger.specs.Folded.{IsReported}
+use Rattle.executor_folds.specs.Leaves.{least_of}
 use Rattle.loop_data.specs.declared.value.Value.{Value}
 use Rattle.loop_grammar.specs.declared.tree.ProgramTree.{ProgramTree}
 use Rattle.loop_meaning.specs.declared.runs.PlainStop.{PlainStop}
@@ -30,11 +28,7 @@ stop_place (stop.Fault at in_line kind) = Some at
 
 -- ---- what a request asks of its fold
 
--- Up to which length an executor halves no part of a shape, given the base. The whole is the one leaf of `seq`.
-abbrev pub least_of : Executor → ℕ → List ℕ → ℕ
-least_of executor.Seq base lens = max 1 (item_count lens)
-
--- the same of the executor and the base of a request
+-- up to which length a request's executor halves no part of a shape
 abbrev pub least_for : Request → List ℕ → ℕ
 least_for request lens = least_of (executor_of request) (base_of request) lens
 

@@ -7,11 +7,11 @@
 
 mod accepted;
 mod answer;
+mod found;
 mod laws;
 mod names;
 mod output;
 mod results;
-mod runner;
 mod status;
 mod top;
 

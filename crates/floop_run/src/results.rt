@@ -5,10 +5,14 @@ ghost use Rattle.loop_grammar.specs.declared.tree.ProgramTree.{ProgramTree};
 ghost use Rattle.loop_grammar.specs.SkippedFaults.{skips_faults};
 ghost use Rattle.loop_meaning.specs.declared.runs.Run.{Run};
 ghost use Rattle.loop_meaning.specs.declared.steps.Pair.{Pair};
-ghost use Rattle.program_words.specs.Values.{wants_report};
+ghost use Rattle.splittable.specs.Places.{item_count};
+ghost use Rattle.fold_seq.specs.Answers.{stop_place_of};
+ghost use Rattle.piece_ledger.specs.Folded.{IsReported};
+ghost use Rattle.loop_standing.specs.Standing.{StretchStands};
+ghost use Rattle.program_words.specs.Values.{wants_report, workers_of};
 ghost use Rattle.program_words.specs.Views.{request_seen};
 ghost use Rattle.floop_run.specs.Results.{fault_text, fault_line, result_line, results_lines, skipped_lines};
-ghost use Rattle.floop_run.specs.Folds.{report_line, report_lines};
+ghost use Rattle.floop_run.specs.Folds.{least_for, report_line, report_lines};
 ghost use Rattle.floop_run.specs.Rows.{AreResults, StandForSome, IsSomeEnd, IsRowEnd};
 ghost use Rattle.floop_run.specs.Answers.{run_answer};
 ghost use Rattle.floop_run.specs.Written.{IsWrittenOf, ended_written};
@@ -17,11 +21,11 @@ ghost use Rattle.floop_run.specs.Outputs.{written_in, lines_in};
 
 use crate::Status;
 use crate::answer::{Output, one_line};
-use crate::runner::Runner;
 use edge_io::NoMemory;
 use legality_check::LegalProgram;
 use loop_data::PrintLine;
-use loop_lower::{LoopEnd, LoopJob};
+use fold_seq::Reduced;
+use loop_lower::{LoopEnd, LoopJob, LoopState};
 use loop_syntax::Program;
 use piece_ledger::Tally;
 use program_words::Request;
@@ -179,18 +183,22 @@ fn add_report(
     Ok(())
 }
 
-/// The output of a run: of a fold of the loop, with the report of it where the request wants one.
-pub(crate) fn run_output<W: Runner>(
+/// The output of a run, of what a fold of the whole gave, with the report of it where the request wants one.
+pub(crate) fn run_output(
     alloc: Global,
-    runner: &W,
     request: &Request<'_>,
     job: &LoopJob<'_>,
+    answer: Reduced<LoopState>,
+    tally: Tally,
 ) -> Result<Output, NoMemory>
+    requires stands { StretchStands job.now.program.now job.now.row.towers.items job.now.head.items 1
+        (item_count job.now.head.lens) answer }
+    requires tally { IsReported job.now.head.lens (least_for (request_seen request.now) job.now.head.lens)
+        (workers_of (request_seen request.now)) (stop_place_of answer) tally }
     ensures answer { IfOk result (λ o. IsWrittenOf (request_seen request.now)
         (run_answer job.now.program.now job.now.head) (written_in o)) }
     ensures answered { IfOk result (λ o. IsAnswered o.status) }
 {
-    let (answer, tally) = runner.run_loop(alloc, request, job)?;
     let end = job.end(alloc, answer)?;
     let mut output = end_output(alloc, job.program, job.row(), &end)?;
     add_report(alloc, request, tally, &mut output.lines)?;

@@ -11,10 +11,8 @@ ghost use Rattle.floop_run.specs.Outputs.{written_in, lines_in};
 use crate::Status;
 use crate::answer::{Output, OutputStop, output_for};
 use crate::output::{WriteStop, write_lines};
-use crate::runner::Direct;
 use edge_io::{Files, Sink};
 use piece_ledger::Gate;
-use program_words::Call;
 use std::alloc::Global;
 use std::thread::Threads;
 
@@ -103,7 +101,7 @@ pub fn floop_words<R: Threads + Sync, F: Files, K: Sink, G: Gate + Sync>(
     // Nothing changes of what files tell that they hold.
     ensures held { F.held files.new ≡ F.held files.old }
 {
-    match output_for(alloc, &Direct { rt, gate }, Call::Direct, words, files) {
+    match output_for(rt, alloc, words, files, gate) {
         Ok(output) => give(alloc, out, &output),
         Err(OutputStop::ReadFault) => Status::ReadFault,
         Err(OutputStop::NoMemory) => Status::NoMemory,

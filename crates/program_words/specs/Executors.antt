@@ -5,11 +5,13 @@ use Rattle.program_words.specs.declared.executor.Executor.{Executor}
 use Rattle.program_words.specs.declared.executor.Executor.TheVariants as executor
 
 abbrev pub executors : List Executor
-executors = executor.Seq ∷ []
+executors = executor.Seq ∷ executor.Halves ∷ executor.Steal ∷ []
 
 -- the word by which an executor is given
 abbrev pub executor_word : Executor → List ℕ
 executor_word executor.Seq = codes "seq"
+executor_word executor.Halves = codes "halves"
+executor_word executor.Steal = codes "steal"
 
 -- the executor that a word is, if it is one
 abbrev pub executor_named : List ℕ → Option Executor

@@ -22,7 +22,7 @@ read_or default read (Some value) = unwrap_or (read value) default
 
 -- in which way the loop is folded
 abbrev pub executor_of : Request → Executor
-executor_of r = read_or executor.Seq executor_named (value_of setting.Executor r)
+executor_of r = read_or executor.Steal executor_named (value_of setting.Executor r)
 
 -- up to which length no part is halved, unless there are very many items
 abbrev pub base_of : Request → ℕ

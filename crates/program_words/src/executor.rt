@@ -8,10 +8,14 @@ ghost use Rattle.program_words.specs.Executors.{executor_word, executor_named, e
 pub enum Executor {
     /// The whole as one part, on one thread.
     Seq,
+    /// By divide and conquer: halves of halves, on threads that are joined.
+    Halves,
+    /// By work stealing: each worker halves and runs its own parts, and takes others' where it has none.
+    Steal,
 }
 
 /// All executors.
-const EXECUTORS: [Executor; 1] = [Executor::Seq];
+const EXECUTORS: [Executor; 3] = [Executor::Seq, Executor::Halves, Executor::Steal];
 
 impl Executor {
     /// The word by which the executor is given.
@@ -20,6 +24,8 @@ impl Executor {
     {
         match self {
             Executor::Seq => "seq",
+            Executor::Halves => "halves",
+            Executor::Steal => "steal",
         }
     }
 }

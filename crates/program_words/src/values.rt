@@ -25,13 +25,13 @@ fn number_or(default: u64, most: u64, value: Option<&str>) -> u64
 }
 
 impl Request<'_> {
-    /// In which way the loop is folded: `seq` where it isn't given.
+    /// In which way the loop is folded: `steal` where it isn't given.
     pub fn executor(&self) -> Executor
         ensures { result ≡ executor_of (request_seen self.now) }
     {
         match self.value(Setting::Executor) {
-            Some(word) => executor_named(word).unwrap_or(Executor::Seq),
-            None => Executor::Seq,
+            Some(word) => executor_named(word).unwrap_or(Executor::Steal),
+            None => Executor::Steal,
         }
     }
 
