@@ -15,9 +15,9 @@ use std::alloc::Global;
 /// The line of a loop that is accepted: how many items it has, and how many reducers, by their names.
 pub(crate) fn accepted_output(alloc: Global, job: &LoopJob<'_>) -> Result<Output, NoMemory>
     ensures answer { IfOk result (λ o. written_in o ≡ record {
-        status = Status.Done;
-        lines = accepted_line job.now.program.now job.now.head.items ∷ [];
-      }) }
+      status = Status.Done;
+      lines = accepted_line job.now.program.now job.now.head.items ∷ [];
+    }) }
     ensures answered { IfOk result (λ o. IsAnswered o.status) }
 {
     let items = job.head.count();
@@ -29,9 +29,9 @@ pub(crate) fn accepted_output(alloc: Global, job: &LoopJob<'_>) -> Result<Output
 /// The lines that tell how a loop is folded: its items, the stages of its chain, its reducers.
 pub(crate) fn explained_output(alloc: Global, job: &LoopJob<'_>) -> Result<Output, NoMemory>
     ensures answer { IfOk result (λ o. written_in o ≡ record {
-        status = Status.Done;
-        lines = explain_lines job.now.program.now (length job.now.head.items);
-      }) }
+      status = Status.Done;
+      lines = explain_lines job.now.program.now (length job.now.head.items);
+    }) }
     ensures answered { IfOk result (λ o. IsAnswered o.status) }
 {
     let lines = job.explain_lines(alloc)?;
