@@ -18,21 +18,21 @@ use std::thread::Threads;
 
 /// Runs the program on its words.
 ///
-/// The words are a command and its settings, as `program_words` reads them: `run` or `check` with `loop=NAME`, the name of a
-/// loop file of at most 65,536 bytes, and maybe `data=NAMES`, the names of one to eight data files of at most 67,108,864
-/// bytes each. `run` writes the result of each `print` line, and how many faults were skipped where the loop skips them, or
-/// the fault that stopped the loop; `check` writes how many items and reducers there are. Where something is refused, both
-/// write the first reason: of the words, the loop file, its legality, the data files, the head. Each line is one put, with
-/// its LF.
+/// The words are a command and its settings, as `program_words` reads them: `run`, `check` or `explain` with `loop=NAME`, the
+/// name of a loop file of at most 65,536 bytes, and maybe `data=NAMES`, the names of one to eight data files of at most
+/// 67,108,864 bytes each. `run` writes the result of each `print` line, and how many faults were skipped where the loop skips
+/// them, or the fault that stopped the loop; `check` writes how many items and reducers there are; `explain` writes the stages
+/// to which the loop is lowered. Where something is refused, each writes the first reason: of the words, the loop file, its
+/// legality, the data files, the head. Each line is one put, with its LF.
 ///
 /// `run` may say in which way it folds the loop, by `executor`, `base` and `workers`, on which no answer depends. With
 /// `report=yes` one more line tells how many parts were run and how many items skipped. Threads are had of `rt`, and `gate`
-/// is called before a leaf is run on threads; the one executor that there is, `seq`, needs neither.
+/// is called before a leaf is run; the executor `seq` runs the whole as one part and needs neither.
 ///
 /// The clauses tie the status and what was written to the answer, `IsAnswer` in specs/Answers, of which there is just one, by
 /// what may be written for it, `IsWritten` in specs/Written:
 ///
-/// - `Done` where the loop ran, or was checked; `LoopFault` where its leftmost stop is a fault;
+/// - `Done` where the loop ran, was checked or explained; `LoopFault` where its leftmost stop is a fault;
 /// - `Refused` where the words, the loop file, a data file or the head are refused;
 /// - `ReadFault` where a file that the call reaches isn't held, or its read failed; nothing was written;
 /// - `WriteFault` where a put failed; a prefix of the text was written;

@@ -75,7 +75,7 @@ impl<'a> LoopJob<'a> {
         names_of(alloc, &self.start, pattern, item, place)
     }
 
-    /// An item of a program whose faults stop the loop: its pairs go into the states as they leave the chain.
+    /// An item of a program whose faults stop the loop: what leaves the chain goes into the states.
     fn take_straight(
         &self,
         alloc: Global,
@@ -122,8 +122,8 @@ impl<'a> LoopJob<'a> {
         Ok(end)
     }
 
-    /// An item with inner heads of a program that skips faults: it is folded from a unit of its own, so that none of its pairs is
-    /// held, and merged in, or dropped where it faults.
+    /// An item with inner heads of a program that skips faults: it is folded from a unit of its own, which is merged in, or dropped
+    /// where it faults.
     fn take_apart(
         &self,
         alloc: Global,
