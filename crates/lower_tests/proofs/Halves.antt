@@ -15,7 +15,7 @@ pub are_shorter_nodes : (lens : List ℕ) (part left right : Stretch) → IsNode
     AreHalves part left right → AreShorterNodes lens part left right
 are_shorter_nodes lens part left right node left_is right_is halves =
     let lies = node_lies lens 1 part node in
-    let some : 1 ≤ part.len = lies.1.1.0 in
+    let some : 1 ≤ part.len = lies.2 in
     let many : 1 < part.len = omega (arith, some, halves.together, halves.left_third, halves.right_third) in
     let both = halves_are_nodes lens 1 part many node many in
     record {

@@ -140,21 +140,34 @@ fn plain_text(alloc: Global, case: &Case<'_, '_>, first: u64, len: u64) -> Resul
 impl NodeTexts for Case<'_, '_> {
     ghost lens = { λ case. case.job.now.head.lens };
 
-    /// What a part gives, and what the plain loop over its items gives.
-    fn texts(&self, alloc: Global, part: &Part) -> Result<(String, String), Fail> {
+    /// What a part gives, and what the plain loop over its items gives, each in a line of its own.
+    fn texts(
+        &self,
+        alloc: Global,
+        part: &Part,
+        got: &mut String,
+        wanted: &mut String,
+    ) -> Result<(), Fail> {
         let answer = self.job.run_part(alloc, part)?;
-        let got = answer_text(alloc, &answer)?;
-        let wanted = plain_text(alloc, self, part.first(), part.len())?;
-        Ok((got, wanted))
+        let answer = answer_text(alloc, &answer)?;
+        got.push_str(answer.as_str())?;
+        got.push_str("\n")?;
+        let plain = plain_text(alloc, self, part.first(), part.len())?;
+        wanted.push_str(plain.as_str())?;
+        wanted.push_str("\n")?;
+        Ok(())
     }
 }
 
 /// Checks each part of a job: the whole, its halves, and so on.
 fn check_job<H: Abort>(rt: &H, alloc: Global, case: &Case<'_, '_>) -> Result<(), Fail> {
-    match case.job.shape().whole() {
-        Some(whole) => compare_nodes(rt, alloc, case, &whole),
-        None => Err(Fail::from("no items")),
-    }
+    let Some(whole) = case.job.shape().whole() else {
+        return Err(Fail::from("no items"));
+    };
+    let (mut got, mut wanted) = (String::new(alloc), String::new(alloc));
+    compare_nodes(alloc, case, &whole, &mut got, &mut wanted)?;
+    assert_eq!(rt; got.as_str(), wanted.as_str());
+    Ok(())
 }
 
 /// Checks each part of a loop.

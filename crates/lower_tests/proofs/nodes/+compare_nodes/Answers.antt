@@ -1,12 +1,19 @@
+use Rattle.std.proofs.Common.{rules, arith, ◌∙◌}
 use Rattle.lower_tests.proofs.Halves.{are_shorter_nodes}
 use Rattle.lower_tests.proofs.nodes.+compare_nodes.Goals as goal
 
-pub compare_nodes-requires-clause-node : goal.compare_nodes-requires-clause-node
-compare_nodes-requires-clause-node g t c κs within =
+-- the left half is a shorter node of the same shape
+pub compare_nodes-requires : goal.compare_nodes-requires
+compare_nodes-requires g t c κs within =
     let e = c.in-Some.ensures in
-    (are_shorter_nodes (g.N.NodeTexts.lens c.args.nodes.now) c.args.part.now c.in-Some.halves.0 c.in-Some.halves.1 c.requires e.cut_left e.cut_right e.halves).left_node
+    let s = are_shorter_nodes (g.N.NodeTexts.lens c.args.nodes.now) c.args.part.now c.in-Some.halves.0 c.in-Some.halves.1 c.requires.node e.cut_left e.cut_right e.halves in
+    let shorter = s.left_shorter in
+    (search (rules, shorter), (search rules, (e.halves.left_lens ∙ c.requires.lens, s.left_node)))
 
-pub compare_nodes-requires-in-Some-clause-node : goal.compare_nodes-requires-in-Some-clause-node
-compare_nodes-requires-in-Some-clause-node g t c κs within =
+-- the right half is a shorter node of the same shape
+pub compare_nodes-requires-2 : goal.compare_nodes-requires-2
+compare_nodes-requires-2 g t c κs within =
     let e = c.in-Some.ensures in
-    (are_shorter_nodes (g.N.NodeTexts.lens c.args.nodes.now) c.args.part.now c.in-Some.halves.0 c.in-Some.halves.1 c.requires e.cut_left e.cut_right e.halves).right_node
+    let s = are_shorter_nodes (g.N.NodeTexts.lens c.args.nodes.now) c.args.part.now c.in-Some.halves.0 c.in-Some.halves.1 c.requires.node e.cut_left e.cut_right e.halves in
+    let shorter = s.right_shorter in
+    (search (rules, shorter), (search rules, (e.halves.right_lens ∙ c.requires.lens, s.right_node)))
