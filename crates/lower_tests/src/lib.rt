@@ -7,6 +7,8 @@ mod explained;
 #[cfg(test)]
 mod loops;
 #[cfg(test)]
+mod nodes;
+#[cfg(test)]
 mod parts;
 #[cfg(test)]
 mod plain;

@@ -1,16 +1,14 @@
 //! Parts of loops against the plain loop over their items.
 
-ghost use Rattle.std.specs.Prelude.{◌≡◌, ◌≤◌};
-ghost use Rattle.splittable.specs.Nodes.{IsNode};
-
 use crate::loops::{legal, table_of};
+use crate::nodes::{NodeTexts, compare_nodes};
 use crate::plain::{run_stretch, stretch_text};
 use fold_seq::{Job, Reduced, fold_seq};
 use loop_lower::{LoopEnd, LoopJob, LoopState, lower};
 use loop_meaning::{ItemList, items_of};
 use loop_syntax::Program;
 use reducer_tower::RowState;
-use splittable::{Part, Splittable};
+use splittable::Part;
 use std::alloc::Global;
 use std::process::Abort;
 use std::test::Fail;
@@ -139,31 +137,37 @@ fn plain_text(alloc: Global, case: &Case<'_, '_>, first: u64, len: u64) -> Resul
     stretch_text(alloc, case.job.row(), &stretch, case.line)
 }
 
-/// Checks a part, and its halves, their halves and so on.
-fn check_part<H: Abort>(rt: &H, alloc: Global, case: &Case<'_, '_>, part: Part) -> Result<(), Fail>
-    requires lens { part.lens ≡ case.now.job.now.head.lens }
-    requires node { IsNode part.lens 1 part }
-    requires some { 1 ≤ part.len }
-{
-    let answer = case.job.run_part(alloc, &part)?;
-    let got = answer_text(alloc, &answer)?;
-    let wanted = plain_text(alloc, case, part.first(), part.len())?;
-    assert_eq!(rt; got.as_str(), wanted.as_str());
-    match part.halve() {
-        Some((left, right)) => {
-            check_part(rt, alloc, case, left)?;
-            check_part(rt, alloc, case, right)
-        }
-        None => Ok(()),
+impl NodeTexts for Case<'_, '_> {
+    ghost lens = { λ case. case.job.now.head.lens };
+
+    /// What a part gives, and what the plain loop over its items gives, each in a line of its own.
+    fn texts(
+        &self,
+        alloc: Global,
+        part: &Part,
+        got: &mut String,
+        wanted: &mut String,
+    ) -> Result<(), Fail> {
+        let answer = self.job.run_part(alloc, part)?;
+        let answer = answer_text(alloc, &answer)?;
+        got.push_str(answer.as_str())?;
+        got.push_str("\n")?;
+        let plain = plain_text(alloc, self, part.first(), part.len())?;
+        wanted.push_str(plain.as_str())?;
+        wanted.push_str("\n")?;
+        Ok(())
     }
 }
 
 /// Checks each part of a job: the whole, its halves, and so on.
 fn check_job<H: Abort>(rt: &H, alloc: Global, case: &Case<'_, '_>) -> Result<(), Fail> {
-    match case.job.shape().whole() {
-        Some(whole) => check_part(rt, alloc, case, whole),
-        None => Err(Fail::from("no items")),
-    }
+    let Some(whole) = case.job.shape().whole() else {
+        return Err(Fail::from("no items"));
+    };
+    let (mut got, mut wanted) = (String::new(alloc), String::new(alloc));
+    compare_nodes(alloc, case, &whole, &mut got, &mut wanted)?;
+    assert_eq!(rt; got.as_str(), wanted.as_str());
+    Ok(())
 }
 
 /// Checks each part of a loop.
