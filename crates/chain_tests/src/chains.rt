@@ -1,14 +1,15 @@
 //! Chains of stages, one item at a time, against what they make of it stage by stage, which was worked by hand.
 
-use crate::stages::{Asks, Made, chain_of, expr_of, read};
+use crate::stages::{Asks, Made, chain_of, expr_at, read};
 use chain_stages::StepEnd;
-use loop_data::{Many, Value};
+use loop_data::{Expr, Many, Value};
 use loop_meaning::{Pair, start_store};
 use loop_syntax::Program;
 use loop_values::{Env, eval};
 use std::alloc::{AllocError, Global};
 use std::process::Abort;
 use std::test::Fail;
+use transducer_kit::Chain;
 
 /// A loop, stages made of it, an item, and the pairs and the end that the chain gives for it.
 type Row = (&'static str, &'static [Made], &'static str, &'static str);
@@ -218,12 +219,22 @@ static ENDS: [Row; 8] = [
     (ALONE, &[], "7", "; going"),
 ];
 
-/// The value of an expression that is no loop's.
-fn value_of(alloc: Global, text: &str) -> Result<Value, Fail> {
+/// A loop whose second line gives `v` this expression.
+fn looped(alloc: Global, text: &str) -> Result<Program, Fail> {
     let text = format!(in alloc; "for x in 1:1\nlet v = {text}\nend\n")?;
-    let program = read(alloc, text.as_str())?;
-    let expr = expr_of(alloc, &program, 0)?;
-    Ok(eval(alloc, &expr, &Env::new(alloc)).map_err(|_| "no value")?)
+    read(alloc, text.as_str())
+}
+
+/// The value of an expression without names.
+fn evaluated(alloc: Global, expr: &Expr) -> Result<Value, Fail> {
+    let names = Env::new(alloc);
+    Ok(eval(alloc, expr, &names).map_err(|_| "no value")?)
+}
+
+/// The value of what this text spells.
+fn value_of(alloc: Global, text: &str) -> Result<Value, Fail> {
+    let program = looped(alloc, text)?;
+    evaluated(alloc, expr_at(&program, 0)?)
 }
 
 /// The values of names with which the chain of an item begins, the item at place 1.
@@ -235,6 +246,12 @@ fn names_at(alloc: Global, program: &Program, item: Value) -> Result<Env, Fail> 
         _ => names.bind(alloc, "@item", item)?,
     }
     Ok(names)
+}
+
+/// The values of names with which the chain of an item that this expression spells begins.
+fn item_names(alloc: Global, program: &Program, item: &str) -> Result<Env, Fail> {
+    let item = value_of(alloc, item)?;
+    names_at(alloc, program, item)
 }
 
 fn push_end(out: &mut String, end: StepEnd) -> Result<(), AllocError> {
@@ -256,17 +273,32 @@ fn shown(alloc: Global, pairs: &[Pair], end: StepEnd) -> Result<String, AllocErr
     Ok(out)
 }
 
-/// What the chain of a row gives for its item.
-fn given(alloc: Global, text: &str, made: &[Made], item: &str) -> Result<String, Fail> {
-    let program = read(alloc, text)?;
-    let chain = chain_of(alloc, &program, made)?;
+/// The pairs and the end of an item that begins with these names.
+fn emitted(alloc: Global, chain: &Chain, names: Env) -> Result<String, Fail> {
     if !chain.cats_follow() {
         return Err(Fail::from("a cat after no range"));
     }
-    let names = names_at(alloc, &program, value_of(alloc, item)?)?;
     let mut pairs = Many::new(alloc);
     let end = chain.emit(alloc, names, &mut pairs)?;
     Ok(shown(alloc, pairs.as_slice(), end)?)
+}
+
+/// What the chain of these stages of a loop gives for an item.
+fn given_by(
+    alloc: Global,
+    program: &Program,
+    made: &[Made],
+    item: &str,
+) -> Result<String, Fail> {
+    let names = item_names(alloc, program, item)?;
+    let chain = chain_of(alloc, program, made)?;
+    emitted(alloc, &chain, names)
+}
+
+/// What the chain of a row gives for its item.
+fn given(alloc: Global, text: &str, made: &[Made], item: &str) -> Result<String, Fail> {
+    let program = read(alloc, text)?;
+    given_by(alloc, &program, made, item)
 }
 
 fn check(rt: &impl Abort, alloc: Global, rows: &[Row]) -> Result<(), Fail> {
@@ -297,12 +329,20 @@ fn the_end_of_a_later_stage_comes_first(rt: HostRuntime) -> Result<(), Fail> {
     check(&rt, rt.alloc(), &ENDS)
 }
 
+/// The lines that `explain` says of these stages of a loop.
+fn told_by(alloc: Global, program: &Program, made: &[Made]) -> Result<Vec<u8>, Fail> {
+    let chain = chain_of(alloc, program, made)?;
+    Ok(chain.text(alloc)?)
+}
+
+fn told(alloc: Global, text: &str, made: &[Made]) -> Result<Vec<u8>, Fail> {
+    let program = read(alloc, text)?;
+    told_by(alloc, &program, made)
+}
+
 #[test]
 fn stages_are_told_by_their_lines(rt: HostRuntime) -> Result<(), Fail> {
-    let alloc = rt.alloc();
-    let program = read(alloc, ROWS)?;
-    let chain = chain_of(alloc, &program, &OF_ROWS)?;
-    let text = chain.text(alloc)?;
+    let text = told(rt.alloc(), ROWS, &OF_ROWS)?;
     let wanted =
         b"stage 1: MapSplat, line 1\nstage 2: Map, line 2\nstage 3: Map, line 3\nstage 4: ReduceIf, line 3\n";
     assert!(&rt; text.as_slice() == wanted.as_slice());

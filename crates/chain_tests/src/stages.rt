@@ -129,9 +129,13 @@ fn expr_in(statement: &Statement) -> Result<&Expr, Fail> {
     }
 }
 
-pub fn expr_of(alloc: Global, program: &Program, number: usize) -> Result<Expr, Fail> {
-    let statement = statement(program, number)?;
-    Ok(expr_in(statement)?.copy(alloc)?)
+/// The expression of the statement of this number.
+pub fn expr_at(program: &Program, number: usize) -> Result<&Expr, Fail> {
+    expr_in(statement(program, number)?)
+}
+
+fn expr_of(alloc: Global, program: &Program, number: usize) -> Result<Expr, Fail> {
+    Ok(expr_at(program, number)?.copy(alloc)?)
 }
 
 /// The name that a statement binds.
