@@ -284,12 +284,7 @@ fn emitted(alloc: Global, chain: &Chain, names: Env) -> Result<String, Fail> {
 }
 
 /// What the chain of these stages of a loop gives for an item.
-fn given_by(
-    alloc: Global,
-    program: &Program,
-    made: &[Made],
-    item: &str,
-) -> Result<String, Fail> {
+fn given_by(alloc: Global, program: &Program, made: &[Made], item: &str) -> Result<String, Fail> {
     let names = item_names(alloc, program, item)?;
     let chain = chain_of(alloc, program, made)?;
     emitted(alloc, &chain, names)

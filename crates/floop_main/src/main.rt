@@ -26,7 +26,5 @@ fn run<R: Threads + Sync>(rt: &HostRuntime, threads: &R) -> Result<Status, Alloc
     let words: Vec<String> = words.collect(alloc)?;
     let mut files = HostFiles::new(rt.clone()?);
     let mut out = HostSink::new(rt.clone()?);
-    Ok(floop_words(
-        threads, alloc, &words, &mut files, &mut out, &OpenGate,
-    ))
+    Ok(floop_words(threads, alloc, &words, &mut files, &mut out, &OpenGate))
 }

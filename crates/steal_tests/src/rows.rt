@@ -151,8 +151,22 @@ fn seats_skip_right_of_a_stop(rt: HostRuntime) -> Result<(), NoMemory> {
         at: 3,
         line: 2,
     };
-    check_turns(&rt, rt.alloc(), &job, 1, &STOP_FOUND_LATE, &(stopped(), tally(7, 1)))?;
-    check_turns(&rt, rt.alloc(), &job, 1, &STOP_FOUND_EARLY, &(stopped(), tally(3, 5)))?;
+    check_turns(
+        &rt,
+        rt.alloc(),
+        &job,
+        1,
+        &STOP_FOUND_LATE,
+        &(stopped(), tally(7, 1)),
+    )?;
+    check_turns(
+        &rt,
+        rt.alloc(),
+        &job,
+        1,
+        &STOP_FOUND_EARLY,
+        &(stopped(), tally(3, 5)),
+    )?;
     // One worker has the one lawful tally, as by halves.
     let (answer, counts) = fold_steal(&rt, rt.alloc(), &job, 1, 1, &OpenGate)?;
     assert!(rt; answer == stopped() && counts == tally(3, 5));
