@@ -6,6 +6,16 @@
 //! are joined to the owner's, it has the whole weight and knows all of it.
 //!
 //! A `pop` or `steal` that gives nothing raises the `misses` of its end, a count that nothing else raises. No call waits.
+//!
+//! # Example
+//!
+//! Eight leaves are pushed from left to right; a test of thread_tests runs it:
+//!
+//! ```
+//! let last = owner.pop().map(|part| (part.first(), part.len()));
+//! let first = thief.steal().map(|part| (part.first(), part.len()));
+//! assert_eq!(rt; (last, first), (Some((8, 1)), Some((1, 1))));
+//! ```
 #![tactic(auto)]
 
 mod account;

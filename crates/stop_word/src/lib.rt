@@ -7,6 +7,21 @@
 //! A [`StopSeat`] is what one thread steps with. It has a weight, and contracts see the places that it has reported and the
 //! numbers that it has seen. All weights together are [`WHOLE`], so who holds the whole weight again knows all that was
 //! reported. No call but [`StopWord::new`] takes memory, and none waits.
+//!
+//! # Example
+//!
+//! One seat reports two places; a test of thread_tests runs it:
+//!
+//! ```
+//! let at_first = word.seen(&mut seat);
+//! let before_seven = word.report(&mut seat, 7);
+//! let before_nine = word.report(&mut seat, 9);
+//! let at_last = word.seen(&mut seat);
+//! assert!(rt; [at_first, before_seven, before_nine, at_last] == [NONE, NONE, 7, 7]);
+//! assert!(rt; word.close(seat) == 7);
+//! ```
+//!
+//! With two threads each has a seat of its own, by `split`; `lesser_of_two` there shows it, with its proof.
 #![tactic(auto)]
 
 pub mod laws;
