@@ -54,7 +54,7 @@ def settings_of(words):
     if not words:
         raise Refused(USAGE.decode())
     command = words[0]
-    if command == "pool":
+    if command == "pool" and command not in SETTINGS:
         raise Refused("not served here")
     if command not in SETTINGS:
         raise Refused(f"unknown command: {command}")
